@@ -1,0 +1,29 @@
+-- Which dates and times are real ones (document 01, "Bytes and tokens"): dates as whole numbers yyyymmdd, times as hhmmss. Assumes nothing.
+use Prim.Native.Nat.{ℕ, _/_, _%_}
+use mathlib.Core.Bool.{Bool, cond, _&&_, _||_}
+use lib.Dec.{leb, eqb}
+
+-- "29 for February": the one definition that a calendar with leap years changes
+unfoldable pub februaryLength : ℕ → ℕ
+februaryLength year = 29
+
+-- "the month's length: 30 for April, June, September and November, 29 for February, else 31"
+unfoldable pub monthLength : ℕ → ℕ → ℕ
+monthLength year month =
+    cond (eqb month 2) (februaryLength year) (cond (eqb month 4 || eqb month 6 || eqb month 9 || eqb month 11) 30 31)
+
+-- "yyyymmdd, year 0000 to 9999, month 01 to 12, day from 01 to the month's length"
+unfoldable pub realDate : ℕ → Bool
+realDate n =
+    let year = n / 10000 in
+    let month = n / 100 % 100 in
+    let day = n % 100 in
+    leb year 9999 && (leb 1 month && leb month 12) && (leb 1 day && leb day (monthLength year month))
+
+-- "Times run from 00:00:00 to 23:59:59."
+unfoldable pub realTime : ℕ → Bool
+realTime n =
+    let hour = n / 10000 in
+    let minute = n / 100 % 100 in
+    let second = n % 100 in
+    leb hour 23 && leb minute 59 && leb second 59

@@ -1,0 +1,63 @@
+-- The refusal numbers of document 01 by name, each under its row. Assumes nothing.
+use Prim.Native.Nat.{ℕ}
+use Rattle.counts.specs.declared.Refusal.{Refusal}
+
+-- "job file over 65,535 bytes"
+abbrev pub fileTooLong : ℕ
+fileTooLong = 1
+
+-- "legal job file with more statements than the lent offset table has places"
+abbrev pub tooFewPlaces : ℕ
+tooFewPlaces = 2
+
+-- "the next bytes are no token; place: first of them (a string: its opening quote)"
+abbrev pub noToken : ℕ
+noToken = 3
+
+-- "a token, or the end of file, that no legal file has after the tokens before it, the byte limit put aside"
+abbrev pub unexpected : ℕ
+unexpected = 4
+
+-- "right shape of time or date where one may stand, but not a real one; or a time or date number not real"
+abbrev pub notReal : ℕ
+notReal = 5
+
+-- "any token after 64 statements"
+abbrev pub tooManyStatements : ℕ
+tooManyStatements = 6
+
+-- "record field out of range, or bytes that are not a record"
+abbrev pub notARecord : ℕ
+notARecord = 7
+
+-- "lent output too short for the whole answer"
+abbrev pub tooLittleRoom : ℕ
+tooLittleRoom = 8
+
+-- "every session number taken"
+abbrev pub allTaken : ℕ
+allTaken = 9
+
+-- "ticket, program or command isn't the one this call may name now"
+abbrev pub notTheOne : ℕ
+notTheOne = 10
+
+-- "a number, offset or file name out of its range"
+abbrev pub outOfRange : ℕ
+outOfRange = 11
+
+-- "last ticket is 4,294,967,295"
+abbrev pub noTicketLeft : ℕ
+noTicketLeft = 12
+
+-- "lent session table unsound"
+abbrev pub unsound : ℕ
+unsound = 13
+
+-- "take up: no unanswered command"
+abbrev pub nothingUnanswered : ℕ
+nothingUnanswered = 14
+
+-- "A refusal returns its number, the place for 3 to 6 in a file (else 0)"
+abbrev pub refusal : ℕ → ℕ → Refusal
+refusal number place = record { number = number; place = place }
