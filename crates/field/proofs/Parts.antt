@@ -1,0 +1,37 @@
+-- Laws of `part`.
+use mathlib.Core.Path.{_≡_, sym, ap, _∙_}
+use mathlib.Core.List.{List, _∷_, _++_}
+use Prim.Native.Nat.{ℕ, suc, _+_, _-_, _≤_, _<_, min}
+use native.Mathlib.Omega.{arith}
+use native.Mathlib.Numerals.{add-one}
+use lib.ListN.{length, drop, getD, length-take, length-drop, take-append-drop}
+use lib.Seq.{drop-cons, take-at, drop-at, drop-drop}
+use Rattle.field.specs.Part.{part}
+
+pub length-part : (s : List ℕ) (at w : ℕ) → length (part s at w) ≡ min w (length s - at)
+unfolding part
+length-part s at w = simp (length-take, length-drop)
+
+pub length-part-in : (s : List ℕ) (at w : ℕ) → at + w ≤ length s → length (part s at w) ≡ w
+length-part-in s at w h = omega (arith, length-part s at w)
+
+pub part-cons : (s : List ℕ) (at w : ℕ) → at < length s → part s at (suc w) ≡ getD s at 0 ∷ part s (at + 1) w
+unfolding part
+part-cons s at w h = rw (add-one, drop-cons s at 0)
+
+-- ---- what stands at a place, and what follows it
+
+module _ (s : List ℕ) (at : ℕ) (xs : List ℕ) (n : ℕ) (long : length xs ≡ n) where
+  pub part-is : (ys : List ℕ) → drop at s ≡ xs ++ ys → part s at n ≡ xs
+  unfolding part
+  part-is ys h = rw h (take-at xs ys n long)
+
+  pub rest-is : (ys : List ℕ) (k : ℕ) → k ≡ at + n → drop at s ≡ xs ++ ys → drop k s ≡ ys
+  rest-is ys k e h = rw e (sym (drop-drop n at s) ∙ rw h (drop-at xs ys n long))
+
+  pub is-part : (k : ℕ) → k ≡ at + n → part s at n ≡ xs → drop at s ≡ xs ++ drop k s
+  unfolding part
+  is-part k e h =
+      sym (take-append-drop n (drop at s))
+      ∙ ap (λ (l : List ℕ). l ++ drop n (drop at s)) h
+      ∙ ap (λ (l : List ℕ). xs ++ l) (drop-drop n at s ∙ ap (λ (m : ℕ). drop m s) (sym e))

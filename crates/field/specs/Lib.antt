@@ -1,0 +1,3 @@
+pub mod Part
+pub mod Bytes
+pub mod Number
