@@ -1,0 +1,28 @@
+-- Every starred example of document 01 holds: one computed test over the whole table. Assumes nothing.
+use mathlib.Core.Path.{_≡_, refl}
+use mathlib.Core.Bool.{true}
+use mathlib.Core.List.{List, [], _∷_, List·Memᴰ, List·Memᴰ·cases-cons, List·Memᴰ·not-nil}
+use mathlib.Core.Logic.{⊎-elim}
+use Rattle.laws.proofs.Choose.{and-left, and-right}
+use Rattle.field.specs.Bytes.{same, hasAt}
+use Rattle.field.specs.Part.{part}
+use Rattle.decimal.specs.Digits.{value, isDigit, allDigits}
+use Rattle.decimal.specs.Read.{digitsRead}
+use Rattle.calendar.specs.Calendar.{februaryLength, monthLength, realDate, realTime}
+use Rattle.session_name.specs.Name.{kindRead, numberRead, nameRead}
+use Rattle.claims.specs.Examples.{Row, examples, allHold}
+
+-- The one test. A row that leans on a new word has the word added to this line.
+pub examples-hold : allHold examples ≡ true
+unfolding examples allHold februaryLength monthLength realDate realTime part same hasAt value isDigit allDigits digitsRead kindRead numberRead nameRead
+examples-hold = refl
+
+-- so each row holds
+each-of : (rows : List Row) → allHold rows ≡ true → (r : Row) → List·Memᴰ r rows → r .holds ≡ true
+unfolding allHold
+each-of [] h r m = absurd (List·Memᴰ·not-nil m)
+each-of (x ∷ xs) h r m =
+    ⊎-elim (λ e. rw e (and-left (x .holds) (allHold xs) h)) (λ n. each-of xs (and-right (x .holds) (allHold xs) h) r n) (List·Memᴰ·cases-cons m)
+
+pub each-example : (r : Row) → List·Memᴰ r examples → r .holds ≡ true
+each-example = each-of examples examples-hold

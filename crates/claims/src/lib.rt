@@ -1,0 +1,1 @@
+// No function: the demands as theorems, and the table of proved examples.

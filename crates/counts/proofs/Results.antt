@@ -1,0 +1,15 @@
+-- Laws of `Result`: what is known of a call that was not refused. Assumes nothing.
+use Prim.Native.Nat.{ℕ}
+use mathlib.Core.Path.{_≡_, refl}
+use mathlib.Core.Bool.{Bool, true, false, cond}
+use native.Mathlib.Omega.{arith}
+use Rattle.counts.specs.Result.{Result, refused, done}
+
+module _ {A : Type 0} where
+  pub refused-not-done : {n p : ℕ} {a : A} → refused n p ≡ done a → ⊥
+  refused-not-done h = let z : _≡_ {A = ℕ} 0 1 = cc in omega arith
+
+  -- a test that would have refused was passed
+  pub passed : (t : Bool) (x : Result A) (n p : ℕ) {a : A} → cond t x (refused n p) ≡ done a → (t ≡ true) × (x ≡ done a)
+  passed true x n p h = (refl, h)
+  passed false x n p h = absurd (refused-not-done h)

@@ -1,0 +1,134 @@
+// The names of session files, SESSnnnn.REQ and SESSnnnn.RSP: read and written.
+use counts::OUT_OF_RANGE;
+use counts::Refusal;
+use counts::SESSIONS;
+use counts::SessionNumber;
+use counts::TOO_LITTLE_ROOM;
+use decimal::DigitsRead;
+ghost use mathlib.Core.Path.{_≡_};
+ghost use Prim.Native.Nat.{_+_, _≤_, _<_};
+ghost use lib.ListN.{length};
+ghost use Rattle.counts.specs.Refusals.{outOfRange, refusal};
+ghost use Rattle.field.specs.Part.{Wrote};
+ghost use Rattle.session_name.specs.Name.{ending, nameOf, isMax, writeRefusal, written, writtenBytes, kindRead, numberRead, isFramed, nameRead, readSays, writeSays};
+
+// A request that a program puts on the share, or the response that the machine puts there.
+pub enum Kind {
+    Request,
+    Response,
+}
+
+pub enum NameRead {
+    Named(SessionNumber, Kind),
+    Refused(Refusal),
+}
+
+pub enum NameWritten {
+    Bytes(usize),
+    Refused(Refusal),
+}
+
+pub const NAME_BYTES: usize = 12;
+
+fn is_max(max: u32) -> bool
+    ensures { λ r. ⌜ r ≡ isMax max ⌝ }
+{
+    (1 <= max) & (max <= SESSIONS)
+}
+
+fn no_name() -> NameRead
+    ensures { λ r. ⌜ r ≡ NameRead.Refused (refusal outOfRange 0) ⌝ }
+{
+    NameRead::Refused(Refusal::plain(OUT_OF_RANGE))
+}
+
+// The name's last four bytes, once its number n is read.
+fn kind_read(name: &[u8], n: u32) -> NameRead
+    ensures { λ r. ⌜ readSays r ≡ kindRead n (now (name .entry)) ⌝ }
+{
+    if field::has_at(name, 8, b".REQ") {
+        return NameRead::Named(SessionNumber(n), Kind::Request);
+    }
+    if field::has_at(name, 8, b".RSP") {
+        return NameRead::Named(SessionNumber(n), Kind::Response);
+    }
+    no_name()
+}
+
+// Whether SESS begins 12 bytes, and MaxSessions is in its range.
+fn is_framed(name: &[u8], max: u32) -> bool
+    ensures { λ r. ⌜ r ≡ isFramed max (now (name .entry)) ⌝ }
+{
+    is_max(max) & (name.len() == NAME_BYTES) & field::has_at(name, 0, b"SESS")
+}
+
+// The rest, once its four digits are read.
+fn number_read(name: &[u8], max: u32, digits: DigitsRead) -> NameRead
+    ensures { λ r. ⌜ readSays r ≡ numberRead max (now (name .entry)) digits ⌝ }
+{
+    let DigitsRead::Value(n) = digits else {
+        return no_name();
+    };
+    if n < max as u64 {
+        kind_read(name, n as u32)
+    } else {
+        no_name()
+    }
+}
+
+// Reads the whole of name as a file name of a table with that MaxSessions.
+pub fn read_name(name: &[u8], max: u32) -> NameRead
+    ensures { λ r. ⌜ readSays r ≡ nameRead max (now (name .entry)) ⌝ }
+{
+    if is_framed(name, max) {
+        number_read(name, max, decimal::digits_at(name, 4, 4))
+    } else {
+        no_name()
+    }
+}
+
+fn write_refusal(max: u32, n: u32, room: usize) -> u32
+    ensures { λ r. ⌜ r ≡ writeRefusal max n room ⌝ }
+{
+    if is_max(max) & (n < max) {
+        if NAME_BYTES <= room {
+            0
+        } else {
+            TOO_LITTLE_ROOM
+        }
+    } else {
+        OUT_OF_RANGE
+    }
+}
+
+fn put_ending(out: &mut [u8], at: usize, kind: Kind) -> usize
+    requires { ⌜ at + 4 ≤ length (now out) ⌝ }
+    ensures { λ r. ⌜ Wrote (now (out .entry)) at (ending kind) (now (out .exit)) r ⌝ }
+{
+    match kind {
+        Kind::Request => field::put_bytes(out, at, b".REQ"),
+        Kind::Response => field::put_bytes(out, at, b".RSP"),
+    }
+}
+
+fn put_name(out: &mut [u8], n: u32, kind: Kind) -> usize
+    requires { ⌜ (12 ≤ length (now out)) × (n < 10000) ⌝ }
+    ensures { λ r. ⌜ Wrote (now (out .entry)) 0 (nameOf n kind) (now (out .exit)) r ⌝ }
+{
+    let number = field::put_bytes(out, 0, b"SESS");
+    let last = decimal::put_digits(out, number, 4, n as u64);
+    put_ending(out, last, kind)
+}
+
+// Writes the name of a session's file at the start of out. Every other byte of out stays.
+pub fn write_name(number: SessionNumber, kind: Kind, max: u32, out: &mut [u8]) -> NameWritten
+    ensures { λ r. ⌜ (writeSays r ≡ written max (number .0) (now (out .entry))) × (now (out .exit) ≡ writtenBytes max (number .0) kind (now (out .entry))) ⌝ }
+{
+    let n = number.0;
+    let no = write_refusal(max, n, out.len());
+    if no == 0 {
+        NameWritten::Bytes(put_name(out, n, kind))
+    } else {
+        NameWritten::Refused(Refusal::plain(no))
+    }
+}
