@@ -72,7 +72,7 @@ kind-done : (n : ℕ) (kind : Kind) → kindRead n (nameOf n kind) ≡ done (n, 
 unfolding kindRead hasAt
 kind-done n kind = rw (kind-part n kind) (which n kind)
 
-name-reads : (max n : ℕ) (kind : Kind) → (isMax max && ltb n max) ≡ true → nameRead max (nameOf n kind) ≡ done (n, kind)
+pub name-reads : (max n : ℕ) (kind : Kind) → (isMax max && ltb n max) ≡ true → nameRead max (nameOf n kind) ≡ done (n, kind)
 unfolding nameRead numberRead
 name-reads max n kind h =
     rw (
@@ -127,7 +127,7 @@ module _ (name : List ℕ) where
       ∙ ap (λ (x : List ℕ). digits 4 n ++ x)
       (has-then name 8 (ending kind) c ∙ rw (length-ending kind, none, append-nil)))
 
-name-back : (max n : ℕ) (kind : Kind) (name : List ℕ) → nameRead max name ≡ done (n, kind)
+pub name-back : (max n : ℕ) (kind : Kind) (name : List ℕ) → nameRead max name ≡ done (n, kind)
     → (name ≡ nameOf n kind) × ((isMax max && ltb n max) ≡ true)
 unfolding nameRead
 name-back max n kind name h =

@@ -1,5 +1,6 @@
 -- The names of session files (document 01, "Session names and table"). Assumes nothing.
 use Prim.Native.Nat.{ℕ}
+use mathlib.Core.Path.{_≡_}
 use mathlib.Core.Bool.{Bool, cond, _&&_}
 use mathlib.Core.List.{List, _++_}
 use lib.Dec.{eqb, leb, ltb}
@@ -77,3 +78,11 @@ readSays (Refused r) = refused (r .number) (r .place)
 abbrev pub writeSays : NameWritten → Result ℕ
 writeSays (Bytes n) = done n
 writeSays (NotWritten r) = refused (r .number) (r .place)
+
+-- ---- the contracts of the two calls: the answer, and every lent byte at exit
+
+abbrev pub ReadsName : ℕ → List ℕ → NameRead → Type 0
+ReadsName max name r = readSays r ≡ nameRead max name
+
+abbrev pub WritesName : ℕ → ℕ → Kind → List ℕ → List ℕ → NameWritten → Type 0
+WritesName max n kind entry exit r = (writeSays r ≡ written max n entry) × (exit ≡ writtenBytes max n kind entry)

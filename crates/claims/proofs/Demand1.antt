@@ -1,0 +1,144 @@
+-- Demand 1, call by call. "Each public call's contract determines the returned answer and all memory lent to it, refusals included": two results
+-- that meet a call's contract are equal. "A refusal comes exactly where document 01 says ... and leaves all lent memory as it found it": an answer is
+-- given exactly under its row's condition, and a refused call's memory at exit is its memory at entry. The calls of `calendar` answer yes or no by one
+-- word of specs/, so their contracts are equations and nothing is left to say of them. Assumes nothing.
+use Prim.Native.Nat.{ℕ, _≤_, _<_}
+use mathlib.Core.Path.{_≡_, refl, sym, _∙_}
+use mathlib.Core.Bool.{Bool, true, false, cond, _&&_}
+use mathlib.Core.List.{List}
+use mathlib.Core.Logic.{_⊎_, inl, inr, ⊎-elim}
+use lib.Dec.{eqb, leb, ltb}
+use lib.ListN.{length}
+use native.Mathlib.Omega.{arith}
+use borrow.Author.Tests.{eq-eqb, ne-eqb, le-leb, lt-leb, leb-true, leb-false}
+use Rattle.counts.specs.Refusals.{outOfRange, tooLittleRoom}
+use Rattle.counts.specs.Result.{Result, refused, done}
+use Rattle.counts.proofs.Results.{refused-not-done}
+use Rattle.field.specs.Bytes.{ascii, hasAt}
+use Rattle.decimal.specs.declared.DigitsRead.{DigitsRead}
+use Rattle.decimal.specs.declared.DigitsRead.the-variants.{Value, NotDigits}
+use Rattle.session_name.specs.Name.{isMax, nameOf, noName, kindRead, numberRead, isFramed, nameRead, writeRefusal, written, writtenBytes, ReadsName, WritesName}
+use Rattle.session_name.specs.declared.Kind.{Kind}
+use Rattle.session_name.specs.declared.Kind.the-variants.{Request, Response}
+use Rattle.session_name.specs.declared.NameRead.{NameRead}
+use Rattle.session_name.specs.declared.NameWritten.{NameWritten}
+use Rattle.session_name.proofs.Says.{read-says-all, write-says-all}
+use Rattle.session_name.proofs.RoundTrip.{name-reads, name-back}
+
+-- ---- the rows, one statement a call
+
+-- "number below MaxSessions", MaxSessions "1 to 32"
+abbrev pub inRange : ℕ → ℕ → Bool
+inRange max n = isMax max && ltb n max
+
+-- write_name: "tests MaxSessions, then number or name (11), then room (8)"
+pub data WriteNameRow (max n room : ℕ) : Result ℕ → Type 0 where
+  not-in-range : inRange max n ≡ false → WriteNameRow max n room (refused outOfRange 0)
+  no-room : inRange max n ≡ true → room < 12 → WriteNameRow max n room (refused tooLittleRoom 0)
+  name-written : inRange max n ≡ true → 12 ≤ room → WriteNameRow max n room (done 12)
+
+-- read_name: a name is taken exactly when it is one, and all else gets 11
+pub data ReadNameRow (max : ℕ) (name : List ℕ) : Result (ℕ × Kind) → Type 0 where
+  name-read : (n : ℕ) (kind : Kind) → inRange max n ≡ true → name ≡ nameOf n kind → ReadNameRow max name (done (n, kind))
+  no-name : ((n : ℕ) (kind : Kind) → inRange max n ≡ true → name ≡ nameOf n kind → ⊥) → ReadNameRow max name (refused outOfRange 0)
+
+abbrev pub WriteNameExactly : Type 0
+WriteNameExactly =
+    ((max n : ℕ) (out : List ℕ) → WriteNameRow max n (length out) (written max n out))
+    × ((max n : ℕ) (out : List ℕ) (v : Result ℕ) → WriteNameRow max n (length out) v → written max n out ≡ v)
+
+abbrev pub ReadNameExactly : Type 0
+ReadNameExactly =
+    ((max : ℕ) (name : List ℕ) → ReadNameRow max name (nameRead max name))
+    × ((max : ℕ) (name : List ℕ) (v : Result (ℕ × Kind)) → ReadNameRow max name v → nameRead max name ≡ v)
+
+-- a refused call's memory at exit is its memory at entry
+abbrev pub RefusedWriteChangesNothing : Type 0
+RefusedWriteChangesNothing =
+    (max n : ℕ) (kind : Kind) (out : List ℕ) (number place : ℕ) → written max n out ≡ refused number place → writtenBytes max n kind out ≡ out
+
+-- ---- what a call determines
+
+abbrev pub ReadNameDetermined : Type 0
+ReadNameDetermined = (max : ℕ) (name : List ℕ) (a b : NameRead) → ReadsName max name a → ReadsName max name b → a ≡ b
+
+abbrev pub WriteNameDetermined : Type 0
+WriteNameDetermined =
+    (max n : ℕ) (kind : Kind) (entry exit exit′ : List ℕ) (a b : NameWritten)
+    → WritesName max n kind entry exit a → WritesName max n kind entry exit′ b → (a ≡ b) × (exit ≡ exit′)
+
+-- ---- the proofs
+
+pub read-name-determined : ReadNameDetermined
+read-name-determined max name a b p q = read-says-all a b (p ∙ sym q)
+
+pub write-name-determined : WriteNameDetermined
+write-name-determined max n kind entry exit exit′ a b p q = (write-says-all a b (p .0 ∙ sym (q .0)), p .1 ∙ sym (q .1))
+
+write-rows : (max n : ℕ) (out : List ℕ) → WriteNameRow max n (length out) (written max n out)
+unfolding written writeRefusal
+write-rows max n out = go (inRange max n) (leb 12 (length out)) refl refl
+  where
+    go : (t u : Bool) → inRange max n ≡ t → leb 12 (length out) ≡ u
+        → let no = cond t (cond u 0 tooLittleRoom) outOfRange in WriteNameRow max n (length out) (cond (eqb no 0) (done 12) (refused no 0))
+    go true true p q = name-written p (leb-true 12 (length out) q)
+    go true false p q = no-room p (leb-false 12 (length out) q)
+    go false u p q = not-in-range p
+
+write-row-is : (max n : ℕ) (out : List ℕ) (v : Result ℕ) → WriteNameRow max n (length out) v → written max n out ≡ v
+unfolding written writeRefusal
+write-row-is max n out v (not-in-range p) = rw p
+write-row-is max n out v (no-room p q) = rw (p, lt-leb 12 (length out) q)
+write-row-is max n out v (name-written p q) = rw (p, le-leb 12 (length out) q)
+
+pub write-name-exactly : WriteNameExactly
+write-name-exactly = (write-rows, write-row-is)
+
+pub refused-write-changes-nothing : RefusedWriteChangesNothing
+unfolding written writtenBytes
+refused-write-changes-nothing max n kind out number place h = go (eqb (writeRefusal max n (length out)) 0) refl h
+  where
+    go : (t : Bool) → eqb (writeRefusal max n (length out)) 0 ≡ t
+        → cond {A = Result ℕ} t (done 12) (refused (writeRefusal max n (length out)) 0) ≡ refused number place → writtenBytes max n kind out ≡ out
+    go true e h = absurd (refused-not-done (sym h))
+    go false e h = rw e
+
+-- whatever a name is, it is read or it gets 11
+abbrev ReadOr11 : Result (ℕ × Kind) → Type 0
+ReadOr11 v = ((n : ℕ) × (kind : Kind) × (v ≡ done (n, kind))) ⊎ (v ≡ noName)
+
+choice : (t : Bool) {v w : Result (ℕ × Kind)} → ReadOr11 v → ReadOr11 w → ReadOr11 (cond t v w)
+choice true p q = p
+choice false p q = q
+
+kind-ways : (n : ℕ) (name : List ℕ) → ReadOr11 (kindRead n name)
+unfolding kindRead
+kind-ways n name =
+    choice (hasAt name 8 (ascii ".REQ")) (inl (n, Request, refl)) (choice (hasAt name 8 (ascii ".RSP")) (inl (n, Response, refl)) (inr refl))
+
+number-ways : (max : ℕ) (name : List ℕ) (d : DigitsRead) → ReadOr11 (numberRead max name d)
+unfolding numberRead
+number-ways max name (Value n) = choice (ltb n max) (kind-ways n name) (inr refl)
+number-ways max name NotDigits = inr refl
+
+two-ways : (max : ℕ) (name : List ℕ) → ReadOr11 (nameRead max name)
+unfolding nameRead
+two-ways max name = choice (isFramed max name) (number-ways max name _) (inr refl)
+
+read-rows : (max : ℕ) (name : List ℕ) → ReadNameRow max name (nameRead max name)
+read-rows max name =
+    ⊎-elim
+    (λ x. let b = name-back max (x .0) (x .1) name (x .2) in rw (x .2) (name-read (x .0) (x .1) (b .1) (b .0)))
+    (λ none. rw none (no-name (λ n kind r e. refused-not-done {a = (n, kind)} (sym none ∙ rw e (name-reads max n kind r)))))
+    (two-ways max name)
+
+read-row-is : (max : ℕ) (name : List ℕ) (v : Result (ℕ × Kind)) → ReadNameRow max name v → nameRead max name ≡ v
+read-row-is max name v (name-read n kind r e) = rw e (name-reads max n kind r)
+read-row-is max name v (no-name none) =
+    ⊎-elim
+    (λ x. let b = name-back max (x .0) (x .1) name (x .2) in absurd (none (x .0) (x .1) (b .1) (b .0)))
+    (λ e. e)
+    (two-ways max name)
+
+pub read-name-exactly : ReadNameExactly
+read-name-exactly = (read-rows, read-row-is)
