@@ -24,13 +24,15 @@ length-digits (suc w) n = ap suc (length-digits w n)
 
 -- ---- a number written and read again
 
+-- a digit's byte and back
+digit-back : (q : ℕ) → 48 + q - 48 ≡ q
+digit-back q = omega arith
+
 value-mod : (w n : ℕ) → value (digits w n) ≡ n % 10 ^ w
 unfolding digits value
 value-mod zero n = sym (mod-one n)
 value-mod (suc w) n =
-    let q : ℕ = n / 10 ^ w % 10 in
-    let e : 48 + q - 48 ≡ q = omega arith in
-    rw (e, length-digits w n, value-mod w n)
+    rw (digit-back, length-digits w n, value-mod w n)
     (sym (mod-mul n (omega arith) (ten-pos w)) ∙ ap (λ (k : ℕ). n % k) (sym (pow-succ' 10 w)))
 
 pub value-digits : (w n : ℕ) → n < 10 ^ w → value (digits w n) ≡ n
