@@ -1,2 +1,3 @@
 pub mod Runs
 pub mod Blanks
+pub mod Settled
