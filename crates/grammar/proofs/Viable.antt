@@ -1,0 +1,107 @@
+-- The reader has not stopped exactly when some legal file goes on from the tokens read.
+use mathlib.Core.Path.{_≡_, refl, sym, _∙_, ap}
+use mathlib.Core.List.{List, [], _∷_, _++_, append-assoc}
+use mathlib.Core.Bool.{false, true≢false}
+use Prim.Native.Nat.{ℕ}
+use Rattle.grammar.specs.Grammar.{Class, Point, isPoint}
+use Rattle.grammar.specs.Grammar.Class.{JOB, RESPONSE, GETINFO, EVENT, ACTIVE, IMMEDIATE, name, number, time, string, operator, semicolon}
+use Rattle.grammar.specs.Grammar.Point.{first, between, statement, jobName, jobResponse, jobFile, moveFile, moveSource, moveStart, startKind, startTime, startDate, startOperator, startValue, infoFile, abortKind, abortName, ending, done, dead}
+use Rattle.grammar.specs.Productions.{Placed, Begins}
+use Rattle.grammar.specs.Reading.{State, move, moves}
+use Rattle.grammar.specs.Reading.State.{on, wrong}
+use Rattle.grammar.specs.Rows.{MayStand}
+use Rattle.grammar.proofs.Moves.{Fine, fine, moves-append, moves-wrong, wrong≢on}
+use Rattle.grammar.proofs.Moves.Fine.{fresh, running}
+use Rattle.grammar.proofs.Files.{file-read, read-legal}
+
+abbrev pub start : State
+start = on done []
+
+-- a way to end a statement from each point
+abbrev finish : Point → List Class
+finish first = JOB ∷ name ∷ RESPONSE ∷ string ∷ semicolon ∷ []
+finish between = GETINFO ∷ string ∷ semicolon ∷ []
+finish statement = GETINFO ∷ string ∷ semicolon ∷ []
+finish jobName = name ∷ RESPONSE ∷ string ∷ semicolon ∷ []
+finish jobResponse = RESPONSE ∷ string ∷ semicolon ∷ []
+finish jobFile = string ∷ semicolon ∷ []
+finish moveFile = string ∷ ACTIVE ∷ semicolon ∷ []
+finish moveSource = ACTIVE ∷ semicolon ∷ []
+finish moveStart = semicolon ∷ []
+finish startKind = IMMEDIATE ∷ semicolon ∷ []
+finish startTime = time ∷ semicolon ∷ []
+finish startDate = semicolon ∷ []
+finish startOperator = operator ∷ number ∷ semicolon ∷ []
+finish startValue = number ∷ semicolon ∷ []
+finish infoFile = string ∷ semicolon ∷ []
+finish abortKind = EVENT ∷ name ∷ semicolon ∷ []
+finish abortName = name ∷ semicolon ∷ []
+finish ending = semicolon ∷ []
+finish done = []
+finish dead = []
+
+abbrev placed : List Class → List Placed
+placed [] = []
+placed (c ∷ cs) = record { class = c; place = 0 } ∷ placed cs
+
+ends : (q : Point) (os : List ℕ) → isPoint q dead ≡ false → moves (on q os) (placed (finish q)) ≡ on done os
+ends first os e = refl
+ends between os e = refl
+ends statement os e = refl
+ends jobName os e = refl
+ends jobResponse os e = refl
+ends jobFile os e = refl
+ends moveFile os e = refl
+ends moveSource os e = refl
+ends moveStart os e = refl
+ends startKind os e = refl
+ends startTime os e = refl
+ends startDate os e = refl
+ends startOperator os e = refl
+ends startValue os e = refl
+ends infoFile os e = refl
+ends abortKind os e = refl
+ends abortName os e = refl
+ends ending os e = refl
+ends done os e = refl
+ends dead os e = absurd (true≢false e)
+
+-- from a state that is on, some tokens complete the file
+completes : (a : List Placed) (q : Point) (os : List ℕ) → Fine q os → moves start a ≡ on q os → Begins a
+completes a q os fresh e =
+    (placed (finish first), 0 ∷ [], read-legal (a ++ placed (finish first)) 0 [] (moves-append start a (placed (finish first)) ∙ ap (λ (s : State). moves s (placed (finish first))) e))
+completes a q os (running {o = o} {os = ps} l f) e =
+    (placed (finish q), o ∷ ps, read-legal (a ++ placed (finish q)) o ps (moves-append start a (placed (finish q)) ∙ ap (λ (s : State). moves s (placed (finish q))) e ∙ ends q (o ∷ ps) l))
+
+pub on-begins : (a : List Placed) (q : Point) (os : List ℕ) → moves start a ≡ on q os → Begins a
+on-begins a q os e = completes a q os (fine a done q [] os fresh e) e
+
+pub wrong-never : (a : List Placed) (n p : ℕ) → moves start a ≡ wrong n p → ¬ Begins a
+wrong-never a n p e b =
+    wrong≢on
+    (sym (moves-wrong n p (b .0))
+    ∙ ap (λ (s : State). moves s (b .0)) (sym e)
+    ∙ sym (moves-append start a (b .0))
+    ∙ file-read (b .2 .file) (b .2 .few))
+
+-- the state after tokens that are in order
+pub begins-on : (a : List Placed) → Begins a → (q : Point) × (os : List ℕ) × moves start a ≡ on q os
+begins-on a b = go (moves start a) refl
+  where
+    go : (s : State) → moves start a ≡ s → (q : Point) × (os : List ℕ) × moves start a ≡ on q os
+    go (on q os) e = (q, os, e)
+    go (wrong n p) e = absurd (wrong-never a n p e b)
+
+pub shorter : (a r : List Placed) → Begins (a ++ r) → Begins a
+shorter a r b = (r ++ b .0, b .1, rw append-assoc at (b .2))
+
+-- one token more
+module _ (a : List Placed) (t : Placed) (q : Point) (os : List ℕ) (e : moves start a ≡ on q os) where
+  one-more : moves start (a ++ (t ∷ [])) ≡ move (on q os) t
+  one-more = moves-append start a (t ∷ []) ∙ ap (λ (s : State). move s t) e
+
+  pub stands : (r : Point) (ps : List ℕ) → move (on q os) t ≡ on r ps → MayStand a t
+  stands r ps m = on-begins (a ++ (t ∷ [])) r ps (one-more ∙ m)
+
+  pub stands-not : (n p : ℕ) → move (on q os) t ≡ wrong n p → ¬ MayStand a t
+  stands-not n p m = wrong-never (a ++ (t ∷ [])) n p (one-more ∙ m)

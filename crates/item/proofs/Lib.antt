@@ -1,0 +1,6 @@
+pub mod Classes
+pub mod Standing
+pub mod Lines
+pub mod Ends
+pub mod Shifted
+pub mod Spelled

@@ -1,0 +1,123 @@
+-- What stands in a file stands in the file with one byte more in front, one place later: so the bytes of a file from a place on read, from
+-- there, as the file does. Assumes nothing.
+use Prim.Native.Nat.{ℕ, suc, _+_, _-_, _≤_, compare·suc-suc}
+use mathlib.Core.Path.{_≡_, refl, _∙_, ap}
+use mathlib.Core.Bool.{Bool, true, false, cond}
+use mathlib.Core.List.{List, _∷_}
+use native.Mathlib.Nat.{suc-add, suc-sub-suc}
+use lib.ListN.{drop}
+use Rattle.field.specs.Part.{part}
+use Rattle.field.specs.Bytes.{hasAt}
+use Rattle.scan.specs.Run.{run, runEnd, blank, blankEnd}
+use Rattle.token.specs.Token.{wordAt, textAt, isTimeAt, isNumberAt, shapedAt, numericAt, signAt, tokenAt, nextToken}
+use Rattle.token.specs.declared.Token.{Token}
+use Rattle.token.specs.declared.Token.the-variants.{End, Fault, Word, TimeGe, Number, Time, Text, Sign, Semicolon}
+use Rattle.item.specs.Tokens.{Next, at, abortClass, clauseClass, wordClass, numberClass, dateNumber, timeNumber, itemOf, nextItem}
+use Rattle.item.specs.Tokens.Next.{item, ended, none}
+
+-- the same token, one byte later
+abbrev pub up : Token → Token
+up (End p) = End (suc p)
+up (Fault w p) = Fault w (suc p)
+up (Word a b) = Word (suc a) (suc b)
+up (TimeGe a b) = TimeGe (suc a) (suc b)
+up (Number a b) = Number (suc a) (suc b)
+up (Time a b) = Time (suc a) (suc b)
+up (Text a b) = Text (suc a) (suc b)
+up (Sign o a b) = Sign o (suc a) (suc b)
+up (Semicolon a b) = Semicolon (suc a) (suc b)
+
+abbrev pub upItem : Next → Next
+upItem (item t b) = at (t .class) (suc (t .place)) (suc b)
+upItem (ended p) = ended (suc p)
+upItem (none p) = none (suc p)
+
+up-cond : (b : Bool) (x y : Token) → up (cond b x y) ≡ cond b (up x) (up y)
+up-cond true x y = refl
+up-cond false x y = refl
+
+module _ (x : ℕ) (v : List ℕ) where
+  run-up : (p : ℕ → Bool) (i : ℕ) → runEnd p (x ∷ v) (suc i) ≡ suc (runEnd p v i)
+  unfolding runEnd
+  run-up p i = suc-add i (run p (drop i v))
+
+  has-up : (i : ℕ) (w : List ℕ) → hasAt (x ∷ v) (suc i) w ≡ hasAt v i w
+  unfolding hasAt part
+  has-up i w = refl
+
+  word-up : (i : ℕ) → wordAt (x ∷ v) (suc i) ≡ up (wordAt v i)
+  unfolding wordAt
+  word-up i = simp (run-up, has-up, suc-add, compare·suc-suc, up-cond)
+
+  text-up : (i : ℕ) → textAt (x ∷ v) (suc i) ≡ up (textAt v i)
+  unfolding textAt
+  text-up i = simp (run-up, suc-add, suc-sub-suc, compare·suc-suc, up-cond)
+
+  is-time-up : (i e : ℕ) → isTimeAt (x ∷ v) (suc i) (suc e) ≡ isTimeAt v i e
+  unfolding isTimeAt
+  is-time-up i e = simp (suc-add, suc-sub-suc)
+
+  number-up : (i e : ℕ) → isNumberAt (x ∷ v) (suc i) (suc e) ≡ isNumberAt v i e
+  unfolding isNumberAt
+  number-up i e = simp (run-up, suc-add, compare·suc-suc)
+
+  shaped-up : (i d : ℕ) → shapedAt (x ∷ v) (suc i) (suc d) ≡ up (shapedAt v i d)
+  unfolding shapedAt
+  shaped-up i d = simp (run-up, is-time-up, number-up, up-cond)
+
+  numeric-up : (i : ℕ) → numericAt (x ∷ v) (suc i) ≡ up (numericAt v i)
+  unfolding numericAt
+  numeric-up i = simp (suc-add, shaped-up, up-cond)
+
+  sign-up : (i : ℕ) → signAt (x ∷ v) (suc i) ≡ up (signAt v i)
+  unfolding signAt
+  sign-up i = simp (suc-add, up-cond)
+
+  token-up : (i : ℕ) → tokenAt (x ∷ v) (suc i) ≡ up (tokenAt v i)
+  unfolding tokenAt
+  token-up i = simp (word-up, numeric-up, text-up, sign-up, compare·suc-suc, up-cond)
+
+  blank-up : (i : ℕ) → blankEnd false (x ∷ v) (suc i) ≡ suc (blankEnd false v i)
+  unfolding blankEnd
+  blank-up i = suc-add i (blank false (drop i v))
+
+  pub next-up : (i : ℕ) → nextToken (x ∷ v) (suc i) ≡ up (nextToken v i)
+  unfolding nextToken
+  next-up i = simp (blank-up, token-up)
+
+  part-up : (i w : ℕ) → part (x ∷ v) (suc i) w ≡ part v i w
+  unfolding part
+  part-up i w = refl
+
+  word-class-up : (a b : ℕ) → wordClass (x ∷ v) (suc a) (suc b) ≡ wordClass v a b
+  unfolding wordClass clauseClass abortClass
+  word-class-up a b = simp (suc-sub-suc, has-up)
+
+  number-class-up : (a b : ℕ) → numberClass (x ∷ v) (suc a) (suc b) ≡ numberClass v a b
+  unfolding numberClass
+  number-class-up a b = simp (suc-sub-suc, part-up)
+
+  date-up : (a b : ℕ) → dateNumber (x ∷ v) (suc a) (suc b) ≡ dateNumber v a b
+  unfolding dateNumber
+  date-up a b = simp (suc-sub-suc, part-up)
+
+  time-up : (a : ℕ) → timeNumber (x ∷ v) (suc a) ≡ timeNumber v a
+  unfolding timeNumber
+  time-up a = simp (suc-add, part-up)
+
+  item-up : (k : Token) → itemOf (x ∷ v) (up k) ≡ upItem (itemOf v k)
+  unfolding itemOf
+  item-up (End p) = refl
+  item-up (Fault w p) = refl
+  item-up (Word a b) = rw word-class-up
+  item-up (TimeGe a b) = refl
+  item-up (Number a b) = rw number-class-up
+  item-up (Time a b) = rw time-up
+  item-up (Text a b) = refl
+  item-up (Sign o a b) = refl
+  item-up (Semicolon a b) = refl
+
+  pub next-item-up : (i : ℕ) (k : Next) → nextItem v i ≡ k → nextItem (x ∷ v) (suc i) ≡ upItem k
+  unfolding nextItem
+  next-item-up i k e = ap (itemOf (x ∷ v)) (next-up i) ∙ item-up (nextToken v i) ∙ ap upItem e
+

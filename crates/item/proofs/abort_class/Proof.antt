@@ -1,0 +1,63 @@
+use Rattle.item.proofs.Classes.{classes}
+use Rattle.item.specs.Tokens.{abortClass}
+use borrow.Author.Needs.{needs}
+use Rattle.item.proofs.abort_class.Statement.{statement}
+use Rattle.item.proofs.abort_class.Tie as tie
+
+slice-aggregate-is-word : tie.Need-slice-aggregate-is-word
+slice-aggregate-is-word c = search needs
+
+is-word-requires : tie.Need-is-word-requires
+is-word-requires c κs = search needs
+
+returns : tie.Need-returns
+unfolding abortClass
+returns c = search classes depth 12
+
+slice-aggregate-is-word-2 : tie.Need-slice-aggregate-is-word-2
+slice-aggregate-is-word-2 c = search needs
+
+is-word-requires-2 : tie.Need-is-word-requires-2
+is-word-requires-2 c κs = search needs
+
+returns-2 : tie.Need-returns-2
+unfolding abortClass
+returns-2 c = search classes depth 12
+
+slice-aggregate-is-word-3 : tie.Need-slice-aggregate-is-word-3
+slice-aggregate-is-word-3 c = search needs
+
+is-word-requires-3 : tie.Need-is-word-requires-3
+is-word-requires-3 c κs = search needs
+
+returns-3 : tie.Need-returns-3
+unfolding abortClass
+returns-3 c = search classes depth 12
+
+is-other-requires : tie.Need-is-other-requires
+is-other-requires c κs = search needs
+
+returns-4 : tie.Need-returns-4
+unfolding abortClass
+returns-4 c = search classes depth 12
+
+returns-5 : tie.Need-returns-5
+unfolding abortClass
+returns-5 c = search classes depth 12
+
+pub abort-class-spec : {M : Type 1} → statement M
+abort-class-spec =
+    tie.close
+    (tie.spec
+    slice-aggregate-is-word
+    is-word-requires
+    returns
+    slice-aggregate-is-word-2
+    is-word-requires-2
+    returns-2
+    slice-aggregate-is-word-3
+    is-word-requires-3
+    returns-3
+    is-other-requires
+    returns-4
+    returns-5)

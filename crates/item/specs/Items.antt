@@ -1,0 +1,61 @@
+-- The next token as code has it: a struct of numbers. The bytes s are those of the file from the place base on, and places are counted
+-- from the file's start.
+use Prim.Native.Nat.{ℕ, _+_, _-_, _≤_}
+use mathlib.Core.Path.{_≡_}
+use mathlib.Core.List.{List}
+use lib.ListN.{length}
+use Rattle.counts.specs.Limits.{fileBytes}
+use Rattle.token.specs.Token.{nextToken}
+use Rattle.token.specs.declared.Operator.{Operator}
+use Rattle.token.specs.declared.Operator.the-variants.{Equal, NotEqual, Above, Below, AtLeast, AtMost}
+use Rattle.token.specs.declared.Token.{Token}
+use Rattle.token.specs.declared.Token.the-variants.{End, Fault, Word, TimeGe, Number, Time, Text, Sign, Semicolon}
+use Rattle.grammar.specs.Grammar.{classNo}
+use Rattle.grammar.specs.Grammar.Class.{TIME≥, string, operator, semicolon}
+use Rattle.item.specs.Tokens.{wordClass, numberClass, dateNumber, timeClass, timeNumber}
+use Rattle.item.specs.declared.Item.{Item}
+
+-- the numbers for the end of the file and for no token, which no class has
+abbrev pub endNo : ℕ
+endNo = 22
+
+abbrev pub noneNo : ℕ
+noneNo = 23
+
+abbrev pub operatorNo : Operator → ℕ
+operatorNo Equal = 0
+operatorNo NotEqual = 1
+operatorNo Above = 2
+operatorNo Below = 3
+operatorNo AtLeast = 4
+operatorNo AtMost = 5
+
+-- a token of s from start to end, by its class, with a date's, a time's or an operator's number
+abbrev pub made : ℕ → ℕ → ℕ → ℕ → ℕ → Item
+made base class start end value =
+    record { class = class; place = base + start; length = end - start; next = base + end; value = value }
+
+unfoldable pub numbered : ℕ → List ℕ → Token → Item
+numbered base s (End p) = made base endNo p p 0
+numbered base s (Fault w p) = made base noneNo p p 0
+numbered base s (Word a b) = made base (classNo (wordClass s a b)) a b 0
+numbered base s (TimeGe a b) = made base (classNo TIME≥) a b 0
+numbered base s (Number a b) = made base (classNo (numberClass s a b)) a b (dateNumber s a b)
+numbered base s (Time a b) = made base (classNo (timeClass s a)) a b (timeNumber s a)
+numbered base s (Text a b) = made base (classNo string) a b 0
+numbered base s (Sign o a b) = made base (classNo operator) a b (operatorNo o)
+numbered base s (Semicolon a b) = made base (classNo semicolon) a b 0
+
+-- the next token from the place at on
+unfoldable pub itemAt : ℕ → List ℕ → ℕ → Item
+itemAt base s at = numbered base s (nextToken s (at - base))
+
+-- the place at lies in the bytes from base on, which lie in a file
+pub record Seen (base : ℕ) (s : List ℕ) (at : ℕ) : Type 0 where
+  pub after : base ≤ at
+  pub short : base + length s ≤ fileBytes
+
+-- what `next_item` answers: the item t, and that it ends not before at
+pub record Stood (base : ℕ) (s : List ℕ) (at : ℕ) (t : Item) : Type 0 where
+  pub is : t ≡ itemAt base s at
+  pub onward : at ≤ t .next

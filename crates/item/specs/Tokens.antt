@@ -1,0 +1,123 @@
+-- The tokens of a job file as the grammar sees them: each with its class and its place (document 01, "Bytes and tokens", "The job grammar").
+use Prim.Native.Nat.{ℕ, zero, suc, _+_, _-_, _*_}
+use mathlib.Core.Bool.{Bool, cond, _||_}
+use mathlib.Core.Path.{_≡_}
+use mathlib.Core.List.{List, [], _∷_}
+use lib.Dec.{eqb}
+use lib.ListN.{length}
+use Rattle.calendar.specs.Calendar.{realDate, realTime}
+use Rattle.decimal.specs.Read.{digitsRead}
+use Rattle.decimal.specs.declared.DigitsRead.{DigitsRead}
+use Rattle.decimal.specs.declared.DigitsRead.the-variants.{Value, NotDigits}
+use Rattle.field.specs.Part.{part}
+use Rattle.field.specs.Bytes.{ascii}
+use Rattle.scan.specs.Run.{isWordAt}
+use Rattle.token.specs.Token.{nextToken}
+use Rattle.token.specs.declared.Token.{Token}
+use Rattle.token.specs.declared.Token.the-variants.{End, Fault, Word, TimeGe, Number, Time, Text, Sign, Semicolon}
+use Rattle.grammar.specs.Grammar.{Class}
+use Rattle.grammar.specs.Grammar.Class.{JOB, RESPONSE, UPLOAD, DOWNLOAD, GETINFO, ABORT, REPORT, EVENT, START, ACTIVE, IMMEDIATE, reserved, name, TIME≥, number, date, unrealDate, time, unrealTime, string, operator, semicolon}
+use Rattle.grammar.specs.Productions.{Placed}
+use Rattle.grammar.specs.Reading.{Last}
+use Rattle.grammar.specs.Reading.Last.{end, broken}
+
+-- "Reserved: JOB RESPONSE UPLOAD DOWNLOAD GETINFO ABORT REPORT EVENT START STOP ACTIVE TIME IMMEDIATE NEVER. A name is a word that isn't
+-- reserved.": the word from a to b
+abbrev pub isOther : List ℕ → ℕ → ℕ → Bool
+isOther s a b = isWordAt s a b (ascii "STOP") || isWordAt s a b (ascii "TIME") || isWordAt s a b (ascii "NEVER")
+
+unfoldable pub abortClass : List ℕ → ℕ → ℕ → Class
+abortClass s a b =
+    cond (isWordAt s a b (ascii "ABORT")) ABORT
+    (cond (isWordAt s a b (ascii "REPORT")) REPORT
+    (cond (isWordAt s a b (ascii "EVENT")) EVENT (cond (isOther s a b) reserved name)))
+
+unfoldable pub clauseClass : List ℕ → ℕ → ℕ → Class
+clauseClass s a b =
+    cond (isWordAt s a b (ascii "START")) START
+    (cond (isWordAt s a b (ascii "ACTIVE")) ACTIVE
+    (cond (isWordAt s a b (ascii "IMMEDIATE")) IMMEDIATE
+    (cond (isWordAt s a b (ascii "RESPONSE")) RESPONSE (abortClass s a b))))
+
+unfoldable pub wordClass : List ℕ → ℕ → ℕ → Class
+wordClass s a b =
+    cond (isWordAt s a b (ascii "JOB")) JOB
+    (cond (isWordAt s a b (ascii "UPLOAD")) UPLOAD
+    (cond (isWordAt s a b (ascii "DOWNLOAD")) DOWNLOAD
+    (cond (isWordAt s a b (ascii "GETINFO")) GETINFO (clauseClass s a b))))
+
+-- the number that a field of digits is; 0 where it is none
+abbrev pub valueOf : DigitsRead → ℕ
+valueOf (Value n) = n
+valueOf NotDigits = 0
+
+-- "A date is eight bare digits yyyymmdd": eight bytes of a number, as they read
+abbrev pub dateClass : DigitsRead → Class
+dateClass (Value n) = cond (realDate n) date unrealDate
+dateClass NotDigits = number
+
+abbrev pub eightAt : List ℕ → ℕ → DigitsRead
+eightAt s a = digitsRead 8 (part s a 8)
+
+unfoldable pub numberClass : List ℕ → ℕ → ℕ → Class
+numberClass s a b = cond (eqb (b - a) 8) (dateClass (eightAt s a)) number
+
+unfoldable pub dateNumber : List ℕ → ℕ → ℕ → ℕ
+dateNumber s a b = cond (eqb (b - a) 8) (valueOf (eightAt s a)) 0
+
+-- "`dd:dd:dd`": as the whole number hhmmss
+abbrev pub twoAt : List ℕ → ℕ → ℕ
+twoAt s a = valueOf (digitsRead 2 (part s a 2))
+
+unfoldable pub timeNumber : List ℕ → ℕ → ℕ
+timeNumber s a = twoAt s a * 10000 + twoAt s (a + 3) * 100 + twoAt s (a + 6)
+
+abbrev pub timeClass : List ℕ → ℕ → Class
+timeClass s a = cond (realTime (timeNumber s a)) time unrealTime
+
+-- what stands next: a token and the place after it; the end of the file; no token
+pub data Next : Type 0 where
+  item : Placed → ℕ → Next
+  ended none : ℕ → Next
+
+abbrev pub at : Class → ℕ → ℕ → Next
+at c a b = item (record { class = c; place = a }) b
+
+unfoldable pub itemOf : List ℕ → Token → Next
+itemOf s (End p) = ended p
+itemOf s (Fault w p) = none p
+itemOf s (Word a b) = at (wordClass s a b) a b
+itemOf s (TimeGe a b) = at TIME≥ a b
+itemOf s (Number a b) = at (numberClass s a b) a b
+itemOf s (Time a b) = at (timeClass s a) a b
+itemOf s (Text a b) = at string a b
+itemOf s (Sign o a b) = at operator a b
+itemOf s (Semicolon a b) = at semicolon a b
+
+-- the next token from a place on
+unfoldable pub nextItem : List ℕ → ℕ → Next
+nextItem s i = itemOf s (nextToken s i)
+
+-- the tokens from a place on are ts, and z ends them
+pub data Tokens (s : List ℕ) : ℕ → List Placed → Last → Type 0 where
+  at-end : {i p : ℕ} → nextItem s i ≡ ended p → Tokens s i [] (end p)
+  no-token : {i p : ℕ} → nextItem s i ≡ none p → Tokens s i [] (broken p)
+  then : {i b : ℕ} {t : Placed} {ts : List Placed} {z : Last} → nextItem s i ≡ item t b → Tokens s b ts z → Tokens s i (t ∷ ts) z
+
+-- the same, computed; n bounds how many there are
+pub record Line : Type 0 where
+  pub tokens : List Placed
+  pub last : Last
+
+abbrev pub lineOn : Next → (ℕ → Line) → Line
+lineOn (ended p) k = record { tokens = []; last = end p }
+lineOn (none p) k = record { tokens = []; last = broken p }
+lineOn (item t b) k = let r = k b in record { tokens = t ∷ r .tokens; last = r .last }
+
+unfoldable pub lineFrom : ℕ → List ℕ → ℕ → Line
+lineFrom zero s i = record { tokens = []; last = broken i }
+lineFrom (suc n) s i = lineOn (nextItem s i) (λ b. lineFrom n s b)
+
+-- the tokens of a file, and what ends them
+unfoldable pub line : List ℕ → Line
+line s = lineFrom (suc (length s)) s 0

@@ -1,0 +1,236 @@
+// The next token of a job file with its class: what the grammar sees of it, as a struct of numbers.
+use calendar::is_real_date;
+use calendar::is_real_time;
+use decimal::DigitsRead;
+use decimal::digits_at;
+use scan::is_word;
+use token::Operator;
+use token::Token;
+use token::next_token;
+ghost use mathlib.Core.Path.{_≡_};
+ghost use Prim.Native.Nat.{_+_, _-_, _≤_, _<_};
+ghost use lib.ListN.{length};
+ghost use Rattle.counts.specs.Limits.{fileBytes};
+ghost use Rattle.grammar.specs.Grammar.{classNo};
+ghost use Rattle.item.specs.Tokens.{isOther, abortClass, clauseClass, wordClass, numberClass, dateNumber, twoAt, timeClass, timeNumber};
+ghost use Rattle.item.specs.Items.{operatorNo, made, numbered, itemAt, Seen, Stood};
+
+// The classes of tokens.
+
+pub const JOB: u8 = 0;
+
+pub const RESPONSE: u8 = 1;
+
+pub const UPLOAD: u8 = 2;
+
+pub const DOWNLOAD: u8 = 3;
+
+pub const GETINFO: u8 = 4;
+
+pub const ABORT: u8 = 5;
+
+pub const REPORT: u8 = 6;
+
+pub const EVENT: u8 = 7;
+
+pub const START: u8 = 8;
+
+pub const ACTIVE: u8 = 9;
+
+pub const IMMEDIATE: u8 = 10;
+
+// STOP, TIME and NEVER, which no production takes
+pub const RESERVED: u8 = 11;
+
+pub const NAME: u8 = 12;
+
+pub const TIME_GE: u8 = 13;
+
+pub const NUMBER: u8 = 14;
+
+// numbers of eight bare digits: a real date, or not
+pub const DATE: u8 = 15;
+
+pub const UNREAL_DATE: u8 = 16;
+
+pub const TIME: u8 = 17;
+
+pub const UNREAL_TIME: u8 = 18;
+
+pub const STRING: u8 = 19;
+
+pub const OPERATOR: u8 = 20;
+
+pub const SEMICOLON: u8 = 21;
+
+// the end of the file
+pub const END: u8 = 22;
+
+// no token
+pub const NONE: u8 = 23;
+
+// A token by its class: its first byte and the place after it, counted from the file's start, and a date's, a time's or an operator's number.
+pub struct Item {
+    pub class: u8,
+    pub place: usize,
+    pub length: usize,
+    pub next: usize,
+    pub value: u32,
+}
+
+// A reserved word that no production takes.
+fn is_other(s: &[u8], a: usize, b: usize) -> bool
+    requires { ⌜ a ≤ b ⌝ }
+    ensures { λ r. ⌜ r ≡ isOther (now (s .entry)) a b ⌝ }
+{
+    is_word(s, a, b, b"STOP") | is_word(s, a, b, b"TIME") | is_word(s, a, b, b"NEVER")
+}
+
+// The words of ABORT, or a name.
+fn abort_class(s: &[u8], a: usize, b: usize) -> u8
+    requires { ⌜ a ≤ b ⌝ }
+    ensures { λ r. ⌜ r ≡ classNo (abortClass (now (s .entry)) a b) ⌝ }
+{
+    if is_word(s, a, b, b"ABORT") {
+        return ABORT;
+    }
+    if is_word(s, a, b, b"REPORT") {
+        return REPORT;
+    }
+    if is_word(s, a, b, b"EVENT") {
+        return EVENT;
+    }
+    if is_other(s, a, b) {
+        return RESERVED;
+    }
+    NAME
+}
+
+// The words within a statement, or else.
+fn clause_class(s: &[u8], a: usize, b: usize) -> u8
+    requires { ⌜ a ≤ b ⌝ }
+    ensures { λ r. ⌜ r ≡ classNo (clauseClass (now (s .entry)) a b) ⌝ }
+{
+    if is_word(s, a, b, b"START") {
+        return START;
+    }
+    if is_word(s, a, b, b"ACTIVE") {
+        return ACTIVE;
+    }
+    if is_word(s, a, b, b"IMMEDIATE") {
+        return IMMEDIATE;
+    }
+    if is_word(s, a, b, b"RESPONSE") {
+        return RESPONSE;
+    }
+    abort_class(s, a, b)
+}
+
+// The class of the word from a to b.
+fn word_class(s: &[u8], a: usize, b: usize) -> u8
+    requires { ⌜ a ≤ b ⌝ }
+    ensures { λ r. ⌜ r ≡ classNo (wordClass (now (s .entry)) a b) ⌝ }
+{
+    if is_word(s, a, b, b"JOB") {
+        return JOB;
+    }
+    if is_word(s, a, b, b"UPLOAD") {
+        return UPLOAD;
+    }
+    if is_word(s, a, b, b"DOWNLOAD") {
+        return DOWNLOAD;
+    }
+    if is_word(s, a, b, b"GETINFO") {
+        return GETINFO;
+    }
+    clause_class(s, a, b)
+}
+
+fn operator_no(o: Operator) -> u32
+    ensures { λ r. ⌜ r ≡ operatorNo o ⌝ }
+{
+    match o {
+        Operator::Equal => 0,
+        Operator::NotEqual => 1,
+        Operator::Above => 2,
+        Operator::Below => 3,
+        Operator::AtLeast => 4,
+        Operator::AtMost => 5,
+    }
+}
+
+// An item of a class, from start to end of the bytes that begin at base.
+fn item_of(base: usize, class: u8, start: usize, end: usize, value: u32) -> Item
+    requires { ⌜ (start ≤ end) × (base + end < 18446744073709551616) ⌝ }
+    ensures { λ r. ⌜ r ≡ made base class start end value ⌝ }
+{
+    Item {
+        class,
+        place: base + start,
+        length: end - start,
+        next: base + end,
+        value,
+    }
+}
+
+// The number from a to b: of eight bare digits it may be a date.
+fn number_item(s: &[u8], base: usize, a: usize, b: usize) -> Item
+    requires { ⌜ (a ≤ b) × (base + b < 18446744073709551616) ⌝ }
+    ensures { λ r. ⌜ r ≡ made base (classNo (numberClass (now (s .entry)) a b)) a b (dateNumber (now (s .entry)) a b) ⌝ }
+{
+    if b - a == 8 {
+        let DigitsRead::Value(n) = digits_at(s, a, 8) else {
+            return item_of(base, NUMBER, a, b, 0);
+        };
+        let day = n as u32;
+        if is_real_date(day) {
+            return item_of(base, DATE, a, b, day);
+        }
+        return item_of(base, UNREAL_DATE, a, b, day);
+    }
+    item_of(base, NUMBER, a, b, 0)
+}
+
+// The number of two digits at a.
+fn two_at(s: &[u8], a: usize) -> u32
+    ensures { λ r. ⌜ (r ≡ twoAt (now (s .entry)) a) × (r < 100) ⌝ }
+{
+    let DigitsRead::Value(n) = digits_at(s, a, 2) else {
+        return 0;
+    };
+    n as u32
+}
+
+// The time dd:dd:dd from a to b.
+fn time_item(s: &[u8], base: usize, a: usize, b: usize) -> Item
+    requires { ⌜ (a ≤ b) × (base + b < 18446744073709551616) × (a ≤ fileBytes) ⌝ }
+    ensures { λ r. ⌜ r ≡ made base (classNo (timeClass (now (s .entry)) a)) a b (timeNumber (now (s .entry)) a) ⌝ }
+{
+    let time = two_at(s, a) * 10000 + two_at(s, a + 3) * 100 + two_at(s, a + 6);
+    if is_real_time(time) {
+        return item_of(base, TIME, a, b, time);
+    }
+    item_of(base, UNREAL_TIME, a, b, time)
+}
+
+// The next token of the bytes s, which stand from the place base on, from the place at on.
+pub fn next_item(s: &[u8], base: usize, at: usize) -> Item
+    requires { ⌜ Seen base (now s) at ⌝ }
+    ensures { λ r. ⌜ Stood base (now (s .entry)) at r ⌝ }
+{
+    match next_token(s, at - base) {
+        Token::End(p) => item_of(base, END, p, p, 0),
+        Token::Fault { why: _, place } => item_of(base, NONE, place, place, 0),
+        Token::Word { start, end } => item_of(base, word_class(s, start, end), start, end, 0),
+        Token::TimeGe { start, end } => item_of(base, TIME_GE, start, end, 0),
+        Token::Number { start, end } => number_item(s, base, start, end),
+        Token::Time { start, end } => time_item(s, base, start, end),
+        Token::Text { start, end } => item_of(base, STRING, start, end, 0),
+        Token::Sign {
+            operator,
+            start,
+            end,
+        } => item_of(base, OPERATOR, start, end, operator_no(operator)),
+        Token::Semicolon { start, end } => item_of(base, SEMICOLON, start, end, 0),
+    }
+}

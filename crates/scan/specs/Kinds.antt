@@ -1,0 +1,41 @@
+-- Which bytes are of which kind (document 01, "Bytes and tokens").
+use Prim.Native.Nat.{ℕ}
+use mathlib.Core.Bool.{Bool, cond, _&&_, _||_}
+use lib.Dec.{eqb, leb}
+
+-- low ≤ b ≤ high
+abbrev pub within : ℕ → ℕ → ℕ → Bool
+within low high b = leb low b && leb b high
+
+-- "Space, tab, CR and LF separate."
+abbrev pub isSeparator : ℕ → Bool
+isSeparator b = eqb b 32 || eqb b 9 || eqb b 13 || eqb b 10
+
+-- "a comment that runs up to CR, LF or the end"
+abbrev pub isLineEnd : ℕ → Bool
+isLineEnd b = eqb b 13 || eqb b 10
+
+abbrev pub isDigit : ℕ → Bool
+isDigit b = within 48 57 b
+
+-- "an ASCII letter"
+abbrev pub isLetter : ℕ → Bool
+isLetter b = within 65 90 b || within 97 122 b
+
+-- "ASCII letters, digits or `_`"
+abbrev pub isWordByte : ℕ → Bool
+isWordByte b = isLetter b || isDigit b || eqb b 95
+
+-- "digits, letters, `_`, `.` and `:`"
+abbrev pub isNumericByte : ℕ → Bool
+isNumericByte b = isWordByte b || eqb b 46 || eqb b 58
+
+-- "bytes from 32 to 254 other than 34"
+abbrev pub isTextByte : ℕ → Bool
+isTextByte b = within 32 33 b || within 35 254 b
+
+-- The kinds of which there are runs, by the numbers that code has for them: of a word, of a numeric run, digits, of a string.
+abbrev pub ofKind : ℕ → ℕ → Bool
+ofKind kind b =
+    cond (eqb kind 0) (isWordByte b)
+    (cond (eqb kind 1) (isNumericByte b) (cond (eqb kind 2) (isDigit b) (isTextByte b)))

@@ -1,0 +1,192 @@
+-- Where a token stands: at the place where it was looked for, and it ends after it, within the file. Assumes nothing.
+use Prim.Native.Nat.{ℕ, suc, _+_, _-_, _≤_, _<_, max}
+use mathlib.Core.Path.{_≡_, refl, sym, _∙_, ap}
+use mathlib.Core.Bool.{Bool, true, false, true≢false, cond, _||_, _&&_}
+use mathlib.Core.List.{List, [], _∷_}
+use native.Mathlib.Omega.{arith}
+use borrow.Author.Tests.{ltb-true, ltb-false}
+use lib.Dec.{ltb, leb, eqb}
+use lib.ListN.{length, getD, drop, length-drop, List·getD-eq-default}
+use lib.Seq.{drop-cons}
+use Rattle.counts.specs.Limits.{wordBytes, textBytes}
+use Rattle.field.specs.Bytes.{ascii, hasAt}
+use Rattle.field.proofs.Same.{has-room}
+use Rattle.scan.specs.Kinds.{isDigit, isLetter, isWordByte, isNumericByte, isTextByte}
+use Rattle.scan.specs.Run.{run, runEnd, blankEnd}
+use Rattle.scan.proofs.Settled.{Onward, onward}
+use Rattle.token.specs.Token.{contentEnd, wordAt, textAt, isTimeAt, isNumberAt, shapedAt, numericAt, signAt, tokenAt, nextToken}
+use Rattle.token.specs.declared.Operator.{Operator}
+use Rattle.token.specs.declared.Why.{Why}
+use Rattle.token.specs.declared.Token.{Token}
+use Rattle.token.specs.declared.Token.the-variants.{End, Fault, Word, TimeGe, Number, Time, Text, Sign, Semicolon}
+
+-- from i up to b, within the file
+pub record Span (s : List ℕ) (i b : ℕ) : Type 0 where
+  pub ahead : i < b
+  pub inside : b ≤ length s
+
+-- the token, if there is one, stands at i and ends after it, within the file
+pub data Ahead (s : List ℕ) (i : ℕ) : Token → Type 0 where
+  the-end : length s ≤ i → Ahead s i (End i)
+  a-fault : {w : Why} → i < length s → Ahead s i (Fault w i)
+  a-word : {b : ℕ} → Span s i b → Ahead s i (Word i b)
+  a-time-ge : {b : ℕ} → Span s i b → Ahead s i (TimeGe i b)
+  a-number : {b : ℕ} → Span s i b → Ahead s i (Number i b)
+  a-time : {b : ℕ} → Span s i b → Ahead s i (Time i b)
+  a-text : {b : ℕ} → Span s i b → Ahead s i (Text i b)
+  a-sign : {o : Operator} {b : ℕ} → Span s i b → Ahead s i (Sign o i b)
+  a-semicolon : {b : ℕ} → Span s i b → Ahead s i (Semicolon i b)
+
+-- a choice, each way
+choice : (P : Token → Type 0) (b : Bool) {x y : Token} → (b ≡ true → P x) → (b ≡ false → P y) → P (cond b x y)
+choice P true f g = f refl
+choice P false f g = g refl
+
+digit : (a b : Bool) → (a || b) ≡ true → b ≡ false → a ≡ true
+digit true b e f = refl
+digit false b e f = sym f ∙ e
+
+-- a digit is a numeric byte, letter or not
+numeric-byte : (a u v w : Bool) → ((a || true || u) || v || w) ≡ true
+numeric-byte true u v w = refl
+numeric-byte false u v w = refl
+
+-- runs lie within the bytes
+run-fits : (p : ℕ → Bool) (xs : List ℕ) → run p xs ≤ length xs
+unfolding run
+run-fits p [] = omega arith
+run-fits p (x ∷ xs) = go (run-fits p xs) (p x) refl
+  where
+    go : run p xs ≤ length xs → (b : Bool) → p x ≡ b → run p (x ∷ xs) ≤ length (x ∷ xs)
+    go h true e = rw (run, e) (omega arith)
+    go h false e = rw (run, e) (omega arith)
+
+module _ (s : List ℕ) (i : ℕ) where
+  either : (b : Bool) {x y : Token} → Ahead s i x → Ahead s i y → Ahead s i (cond b x y)
+  either b p q = choice (Ahead s i) b (λ e. p) (λ e. q)
+
+  from : (p : ℕ → Bool) (j : ℕ) → j ≤ runEnd p s j
+  unfolding runEnd
+  from p j = omega arith
+
+  up-to : (p : ℕ → Bool) (j : ℕ) → j ≤ length s → runEnd p s j ≤ length s
+  unfolding runEnd
+  up-to p j l = omega (arith, run-fits p (drop j s), length-drop j s)
+
+  -- a byte that passes a test that 0 does not pass
+  pub in-range : (p : ℕ → Bool) (k : ℕ) → p 0 ≡ false → p (getD s k 0) ≡ true → k < length s
+  in-range p k z e = go (ltb k (length s)) refl
+    where
+      go : (b : Bool) → ltb k (length s) ≡ b → k < length s
+      go true l = ltb-true _ _ l
+      go false l = absurd (true≢false (sym e ∙ ap p (List·getD-eq-default s 0 (ltb-false _ _ l)) ∙ z))
+
+  -- a run whose first byte passes
+  past : (p : ℕ → Bool) → i < length s → p (getD s i 0) ≡ true → i < runEnd p s i
+  unfolding runEnd run
+  past p l e = rw (drop-cons s i 0 l, run, e) (omega arith)
+
+  word : i < length s → isLetter (getD s i 0) ≡ true → Ahead s i (wordAt s i)
+  unfolding wordAt
+  word l e =
+      choice (Ahead s i) (hasAt s i (ascii "TIME>="))
+      (λ h. a-time-ge (omega (arith, has-room s i (ascii "TIME>=") (omega arith) h)))
+      (λ h. either (leb (runEnd isWordByte s i) (i + wordBytes)) (a-word (omega (arith, past isWordByte l (rw e), up-to isWordByte i (omega arith)))) (a-fault l))
+
+  shaped : (d : ℕ) → i < length s → d ≤ length s → i < runEnd isNumericByte s d → Ahead s i (shapedAt s i d)
+  unfolding shapedAt
+  shaped d k m l =
+      let r : Span s i (runEnd isNumericByte s d) = omega (arith, up-to isNumericByte d m) in
+      either (isTimeAt s i (runEnd isNumericByte s d)) (a-time r) (either (isNumberAt s d (runEnd isNumericByte s d)) (a-number r) (a-fault k))
+
+  numeric : i < length s → (isDigit (getD s i 0) || eqb (getD s i 0) 45) ≡ true → Ahead s i (numericAt s i)
+  unfolding numericAt
+  numeric l e =
+      choice (Ahead s i) (eqb (getD s i 0) 45)
+      (λ m. choice (Ahead s i) (isDigit (getD s (i + 1) 0)) (λ d. shaped (i + 1) l (omega arith) (omega (arith, from isNumericByte (i + 1)))) (λ d. a-fault l))
+      (λ m. shaped i l (omega arith) (past isNumericByte l (rw (digit (isDigit (getD s i 0)) (eqb (getD s i 0) 45) e m) (numeric-byte (isLetter (getD s i 0)) (eqb (getD s i 0) 95) (eqb (getD s i 0) 46) (eqb (getD s i 0) 58)))))
+
+  text : i < length s → Ahead s i (textAt s i)
+  unfolding textAt
+  text l =
+      either (leb (contentEnd s i - (i + 1)) textBytes)
+      (choice (Ahead s i) (eqb (getD s (contentEnd s i) 0) 34)
+      (λ e. a-text (omega (arith, from isTextByte (i + 1), in-range (λ b. eqb b 34) (contentEnd s i) refl e)))
+      (λ e. either (ltb (contentEnd s i) (length s)) (a-fault l) (a-fault l)))
+      (a-fault l)
+
+  one : i < length s → Span s i (i + 1)
+  one l = omega arith
+
+  two : eqb (getD s (i + 1) 0) 61 ≡ true → Span s i (i + 2)
+  two e = omega (arith, in-range (λ b. eqb b 61) (i + 1) refl e)
+
+  sign : i < length s → Ahead s i (signAt s i)
+  unfolding signAt
+  sign l =
+      choice (Ahead s i) (eqb (getD s (i + 1) 0) 61)
+      (λ e. search (either, a-sign, a-semicolon, a-fault, two, one) depth 12)
+      (λ e. search (either, a-sign, a-semicolon, a-fault, one) depth 9)
+
+  pub ahead : Ahead s i (tokenAt s i)
+  unfolding tokenAt
+  ahead =
+      choice (Ahead s i) (ltb i (length s))
+      (λ l. choice (Ahead s i) (isLetter (getD s i 0)) (λ e. word (ltb-true _ _ l) e)
+      (λ n. choice (Ahead s i) (isDigit (getD s i 0) || eqb (getD s i 0) 45) (λ e. numeric (ltb-true _ _ l) e) (λ m. either (eqb (getD s i 0) 34) (text (ltb-true _ _ l)) (sign (ltb-true _ _ l)))))
+      (λ l. the-end (ltb-false _ _ l))
+
+-- a token's first byte and the place after it; of the end and of no token, its place
+abbrev pub startOf : Token → ℕ
+startOf (End p) = p
+startOf (Fault w p) = p
+startOf (Word a b) = a
+startOf (TimeGe a b) = a
+startOf (Number a b) = a
+startOf (Time a b) = a
+startOf (Text a b) = a
+startOf (Sign o a b) = a
+startOf (Semicolon a b) = a
+
+abbrev pub endOf : Token → ℕ
+endOf (End p) = p
+endOf (Fault w p) = p
+endOf (Word a b) = b
+endOf (TimeGe a b) = b
+endOf (Number a b) = b
+endOf (Time a b) = b
+endOf (Text a b) = b
+endOf (Sign o a b) = b
+endOf (Semicolon a b) = b
+
+-- where the next token from i on lies
+pub record Lies (s : List ℕ) (i a b : ℕ) : Type 0 where
+  pub from : i ≤ a
+  pub ordered : a ≤ b
+  pub to : b ≤ max i (length s)
+
+lies-from : {s : List ℕ} {i : ℕ} {t : Token} → Ahead s i t → Lies s i (startOf t) (endOf t)
+lies-from (the-end l) = omega arith
+lies-from (a-fault l) = omega arith
+lies-from (a-word r) = omega arith
+lies-from (a-time-ge r) = omega arith
+lies-from (a-number r) = omega arith
+lies-from (a-time r) = omega arith
+lies-from (a-text r) = omega arith
+lies-from (a-sign r) = omega arith
+lies-from (a-semicolon r) = omega arith
+
+wider : (s : List ℕ) (i j a b : ℕ) → Onward s i j → Lies s j a b → Lies s i a b
+wider s i j a b o l = record { from = omega arith; ordered = l .ordered; to = omega arith }
+
+-- the same of a token that a caller has taken apart
+pub lies : (s : List ℕ) (i : ℕ) (r t : Token) → r ≡ nextToken s i → r ≡ t → Lies s i (startOf t) (endOf t)
+unfolding nextToken
+lies s i r t d e = rw (← e, d) (wider s i (blankEnd false s i) _ _ (onward s i) (lies-from (ahead s (blankEnd false s i))))
+
+time-within : {s : List ℕ} {i a b : ℕ} → Ahead s i (Time a b) → b ≤ length s
+time-within (a-time r) = r .inside
+
+pub time-inside : (s : List ℕ) (i a b : ℕ) (r : Token) → r ≡ nextToken s i → r ≡ Time a b → b ≤ length s
+unfolding nextToken
+time-inside s i a b r d e = time-within (rw (sym d ∙ e) at (ahead s (blankEnd false s i)))

@@ -1,0 +1,99 @@
+-- The tokens of a job file (document 01, "Bytes and tokens"): each definition stands under its rule there. "A token is the longest run of
+-- its kind". Where no token stands, `Fault` keeps why.
+use Prim.Native.Nat.{ℕ, _+_, _-_}
+use mathlib.Core.Bool.{Bool, false, cond, _&&_, _||_}
+use mathlib.Core.List.{List}
+use lib.Dec.{eqb, leb, ltb}
+use lib.ListN.{length, getD, take, drop}
+use Rattle.counts.specs.Limits.{wordBytes, textBytes, numberDigits}
+use Rattle.field.specs.Bytes.{hasAt, ascii}
+use Rattle.scan.specs.Kinds.{isDigit, isLetter, isWordByte, isNumericByte, isTextByte}
+use Rattle.scan.specs.Run.{runEnd, blankEnd}
+use Rattle.token.specs.declared.Operator.{Operator}
+use Rattle.token.specs.declared.Operator.the-variants.{Equal, NotEqual, Above, Below, AtLeast, AtMost}
+use Rattle.token.specs.declared.Why.{Why}
+use Rattle.token.specs.declared.Why.the-variants.{Stray, OpenString, BrokenString, Misshapen}
+use Rattle.token.specs.declared.Token.{Token}
+use Rattle.token.specs.declared.Token.the-variants.{End, Fault, Word, TimeGe, Number, Time, Text, Sign, Semicolon}
+
+-- "Word: an ASCII letter, then ASCII letters, digits or `_`; 1 to 255 bytes, and a longer run is no token; case counts. `TIME` directly
+-- followed by `>=` makes the one token `TIME>=`."
+unfoldable pub wordAt : List ℕ → ℕ → Token
+wordAt s i =
+    cond (hasAt s i (ascii "TIME>=")) (TimeGe i (i + 6))
+    (cond (leb (runEnd isWordByte s i) (i + wordBytes)) (Word i (runEnd isWordByte s i)) (Fault Misshapen i))
+
+-- the place where the content of a string ends that opens at i
+abbrev pub contentEnd : List ℕ → ℕ → ℕ
+contentEnd s i = runEnd isTextByte s (i + 1)
+
+-- "String: byte 34, then 0 to 255 bytes from 32 to 254 other than 34, then byte 34.": from its opening quote at i. Else it meets its 256th
+-- content byte, the end of the file or a forbidden byte first.
+unfoldable pub textAt : List ℕ → ℕ → Token
+textAt s i =
+    cond (leb (contentEnd s i - (i + 1)) textBytes)
+    (cond (eqb (getD s (contentEnd s i) 0) 34) (Text i (contentEnd s i + 1))
+    (cond (ltb (contentEnd s i) (length s)) (Fault BrokenString i) (Fault OpenString i)))
+    (Fault BrokenString i)
+
+-- a whole string begins at i
+unfoldable pub isTextAt : List ℕ → ℕ → Bool
+isTextAt s i = eqb (getD s i 0) 34 && leb (contentEnd s i - (i + 1)) textBytes && eqb (getD s (contentEnd s i) 0) 34
+
+-- "The text of a quoted string is shown as that part of the file between its quotes."
+unfoldable pub contentAt : List ℕ → ℕ → List ℕ
+contentAt s i = take (contentEnd s i - (i + 1)) (drop (i + 1) s)
+
+-- two digits at i
+abbrev pub pairAt : List ℕ → ℕ → Bool
+pairAt s i = isDigit (getD s i 0) && isDigit (getD s (i + 1) 0)
+
+-- "Time: `dd:dd:dd` without sign.": from i to e
+unfoldable pub isTimeAt : List ℕ → ℕ → ℕ → Bool
+isTimeAt s i e =
+    eqb (e - i) 8 && pairAt s i && eqb (getD s (i + 2) 0) 58 && pairAt s (i + 3) && eqb (getD s (i + 5) 0) 58 && pairAt s (i + 6)
+
+-- "Number: 1 to 16 digits in all, with at most one point that has a digit on each side.": from its first digit d to e
+unfoldable pub isNumberAt : List ℕ → ℕ → ℕ → Bool
+isNumberAt s d e =
+    cond (eqb (runEnd isDigit s d) e) (leb e (d + numberDigits))
+    (eqb (getD s (runEnd isDigit s d) 0) 46 && isDigit (getD s (runEnd isDigit s d + 1) 0) && eqb (runEnd isDigit s (runEnd isDigit s d + 1)) e
+    && leb e (d + numberDigits + 1))
+
+-- "It must have one of two shapes.": a numeric run that starts at i and has its first digit at d
+unfoldable pub shapedAt : List ℕ → ℕ → ℕ → Token
+shapedAt s i d =
+    cond (isTimeAt s i (runEnd isNumericByte s d)) (Time i (runEnd isNumericByte s d))
+    (cond (isNumberAt s d (runEnd isNumericByte s d)) (Number i (runEnd isNumericByte s d)) (Fault Misshapen i))
+
+-- "Numeric run: an optional `-`, a digit, then digits, letters, `_`, `.` and `:`."
+unfoldable pub numericAt : List ℕ → ℕ → Token
+numericAt s i = cond (eqb (getD s i 0) 45) (cond (isDigit (getD s (i + 1) 0)) (shapedAt s i (i + 1)) (Fault Stray i)) (shapedAt s i i)
+
+-- "Operators `=` `!=` `>` `<` `>=` `<=`, and `;`.": of one byte b
+abbrev pub oneSign : ℕ → ℕ → Token
+oneSign b i =
+    cond (eqb b 59) (Semicolon i (i + 1))
+    (cond (eqb b 61) (Sign Equal i (i + 1))
+    (cond (eqb b 62) (Sign Above i (i + 1)) (cond (eqb b 60) (Sign Below i (i + 1)) (Fault Stray i))))
+
+-- the same where `=` follows b
+abbrev pub signBeforeEqual : ℕ → ℕ → Token
+signBeforeEqual b i =
+    cond (eqb b 33) (Sign NotEqual i (i + 2))
+    (cond (eqb b 62) (Sign AtLeast i (i + 2)) (cond (eqb b 60) (Sign AtMost i (i + 2)) (oneSign b i)))
+
+unfoldable pub signAt : List ℕ → ℕ → Token
+signAt s i = cond (eqb (getD s (i + 1) 0) 61) (signBeforeEqual (getD s i 0) i) (oneSign (getD s i 0) i)
+
+-- the token that begins at i, by its first byte
+unfoldable pub tokenAt : List ℕ → ℕ → Token
+tokenAt s i =
+    cond (ltb i (length s))
+    (cond (isLetter (getD s i 0)) (wordAt s i)
+    (cond (isDigit (getD s i 0) || eqb (getD s i 0) 45) (numericAt s i) (cond (eqb (getD s i 0) 34) (textAt s i) (signAt s i))))
+    (End i)
+
+-- the next token from at on
+unfoldable pub nextToken : List ℕ → ℕ → Token
+nextToken s at = tokenAt s (blankEnd false s at)
