@@ -56,10 +56,10 @@ pub const FILE_TOO_LONG: u32 = 1;
 // legal job file with more statements than the lent offset table has places
 pub const TOO_FEW_PLACES: u32 = 2;
 
-// the next bytes are no token
+// the next bytes are no token; place: first of them (a string: its opening quote)
 pub const NO_TOKEN: u32 = 3;
 
-// a token, or the end of file, that no legal file has after the tokens before it
+// a token, or the end of file, that no legal file has after the tokens before it, the byte limit put aside
 pub const UNEXPECTED: u32 = 4;
 
 // right shape of time or date where one may stand, but not a real one; or a time or date number not real
