@@ -1,4 +1,5 @@
 pub mod Laws
+pub mod Loops
 pub mod Parts
 pub mod Did
 pub mod SoundKept

@@ -45,6 +45,16 @@ pub record Clean (σ : State) : Type 0 where
   pub beyond : (s : ℕ) → sessions ≤ s → σ .slot s ≡ openSlot
 
 module _ (σ : State) (s : ℕ) (x : Slot) where
+  -- the head's test alone bounds the answers
+  pub few-of-head : headSound σ s x ≡ true → length (x .answers) ≤ commands
+  unfolding headSound inRange
+  few-of-head e =
+      let e1 = halves (ltb s (σ .max) && inRange x && leb (x .ticket) (σ .last)) (leb (length (x .answers)) (x .count)) e in
+      let e2 = halves (ltb s (σ .max)) (inRange x) (halves (ltb s (σ .max) && inRange x) (leb (x .ticket) (σ .last)) (e1 .0) .0) in
+      let e3 = halves (within 1 (x .program) programs && within 1 (x .count) commands) (within 1 (x .ticket) ticketMost) (e2 .1) in
+      let c = in-range 1 (x .count) commands (halves (within 1 (x .program) programs) (within 1 (x .count) commands) (e3 .0) .1) in
+      omega (arith, leb-true (length (x .answers)) (x .count) (e1 .1))
+
   from-tests : (headSound σ s x && isNew σ s x && allReal (x .answers)) ≡ true → (x .program ≡ 0 → ⊥) → Session (σ .max) (σ .last) s x
   unfolding headSound inRange
   from-tests e n =
