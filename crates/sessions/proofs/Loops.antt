@@ -8,7 +8,7 @@ use native.Mathlib.Nat.{eq-or-lt-of-le}
 use native.Mathlib.Numerals.{add-one}
 use native.Mathlib.Omega.{arith}
 use lib.ListN.{length, length-append}
-use Rattle.sessions.specs.Find.{Found, none, at, find, all, first}
+use Rattle.sessions.specs.Find.{none, at, orNone, find, all, first}
 use Rattle.sessions.specs.Sound.{isReal, allReal}
 use Rattle.sessions.specs.declared.Answer.{Answer}
 
@@ -31,11 +31,7 @@ all-fails p (suc n) {i} h e =
 pub all-end : (p : ℕ → Bool) {i n : ℕ} → all i p ≡ true → i ≡ n → all n p ≡ true
 all-end p h e = rw (← e) h
 
--- ---- the lowest number below n; the place n itself stands for none
-
-abbrev pub orNone : Found → ℕ → ℕ
-orNone none n = n
-orNone (at i) n = i
+-- ---- the lowest number below n
 
 pub find-none : (p : ℕ → Bool) → find 0 p ≡ none
 unfolding find
@@ -45,11 +41,18 @@ pub find-more : (p : ℕ → Bool) {n : ℕ} → find n p ≡ none → p n ≡ f
 unfolding find
 find-more p {n} h e = rw (add-one, h, e)
 
-pub find-hit : (p : ℕ → Bool) (m : ℕ) {n : ℕ} → find n p ≡ none → p n ≡ true → n < m → find m p ≡ at n
+find-hit : (p : ℕ → Bool) (m : ℕ) {n : ℕ} → find n p ≡ none → p n ≡ true → n < m → find m p ≡ at n
 unfolding find
 find-hit p zero h e l = absurd (omega arith)
 find-hit p (suc m) {n} h e l =
     ⊎-elim (λ q. rw (← q, h, e)) (λ k. rw (find-hit p m h e k)) (eq-or-lt-of-le {n = n} {m = m} (omega arith))
+
+-- where a search ends
+pub hit-is : (p : ℕ → Bool) (m k : ℕ) {n : ℕ} → find n p ≡ none → p n ≡ true → n < m → n ≡ orNone (find m p) k
+hit-is p m k h e l = rw (find-hit p m h e l)
+
+pub end-is : (p : ℕ → Bool) {i n r : ℕ} → find i p ≡ none → i ≡ n → r ≡ n → r ≡ orNone (find n p) n
+end-is p {i} {n} {r} h e q = q ∙ sym (ap (λ f. orNone f n) (ap (λ k. find k p) (sym e) ∙ h))
 
 -- ---- the first n values
 

@@ -13,6 +13,11 @@ abbrev pub orElse : Found → Found → Found
 orElse none g = g
 orElse (at i) g = at i
 
+-- the number found, and n where there is none
+abbrev pub orNone : Found → ℕ → ℕ
+orNone none n = n
+orNone (at i) n = i
+
 unfoldable pub find : ℕ → (ℕ → Bool) → Found
 find zero p = none
 find (suc n) p = orElse (find n p) (cond (p n) (at n) none)
