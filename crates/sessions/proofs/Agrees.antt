@@ -1,0 +1,79 @@
+-- The table agrees with the history, always.
+use Prim.Native.Nat.{ℕ, _+_, _≤_}
+use mathlib.Core.Path.{_≡_, refl, _∙_, ap, sym}
+use mathlib.Core.Logic.{⊎-elim}
+use mathlib.Core.List.{List, [], _∷_}
+use native.Mathlib.Omega.{arith}
+use borrow.Author.Tests.{eq-eqb, ne-eqb}
+use Rattle.counts.specs.Limits.{sessions}
+use Rattle.sessions.specs.History.{Call, Event, table, history, gather, placing, placings, accepted, collection, collections}
+use Rattle.sessions.proofs.Parts.{Sound}
+use Rattle.sessions.specs.Table.{State, fresh}
+use Rattle.sessions.proofs.Did.{Idle, no-place, no-take-up, again, no-answer, no-collect, Did, nothing, places, takes, answers, collects, did}
+use Rattle.sessions.proofs.Laws.{either}
+use Rattle.sessions.proofs.SoundKept.{fresh-sound, is-session, is-open, tickets-below, sound-kept}
+use Rattle.sessions.proofs.Standing.{Standing, new, apart, its-placing, its-answer, its-collection}
+
+-- each ticket stands as its placings, acceptances and collections say
+abbrev pub Stands : State → List Event → Type 0
+Stands σ h = (t : ℕ) → Standing (σ .last) (σ .slot) t (placings t h) (accepted t h) (collections t h)
+
+pub record Agrees (σ : State) (h : List Event) : Type 0 where
+  pub sound : Sound σ
+  pub standing : Stands σ h
+
+fresh-agrees : (max : ℕ) → 1 ≤ max → max ≤ sessions → Agrees (fresh max) []
+unfolding fresh gather accepted
+fresh-agrees max l h =
+    record {
+      sound = fresh-sound max l h;
+      standing = λ t. new (record { nowhere = λ l s e. omega arith; no-placing = refl; no-answer = refl; no-reply = refl });
+    }
+
+module _ (σ : State) (h : List Event) (ok : Sound σ) (A : Stands σ h) where
+  idle : {e : Event} → Idle σ e → Stands σ (e ∷ h)
+  unfolding gather placing accepted collection
+  idle (no-place p n k i) = A
+  idle (no-take-up k i) = A
+  idle (again s) = A
+  idle (no-answer t c a k i) = A
+  idle (no-collect p t room k i) = A
+
+  stands : {e : Event} {σ′ : State} → Did σ e σ′ → Stands σ′ (e ∷ h)
+  unfolding gather placing accepted collection
+  stands (nothing i) = idle i
+  stands (places {s = s} {p = p} {n = n} w) = λ t.
+      let z : σ .slot s .ticket ≡ 0 = ap (λ x. x .ticket) (is-open σ ok s (w .free)) in
+      ⊎-elim
+      (λ (e : σ .last + 1 ≡ t). rw (eq-eqb _ _ e) (its-placing (σ .last) (σ .slot) t _ _ _ s p n e (tickets-below σ ok) (A t)))
+      (λ (d : σ .last + 1 ≡ t → ⊥). rw (ne-eqb _ _ d)
+      (apart (σ .last) (σ .slot) t _ _ _ s (σ .last + 1) _ (omega arith) (λ l e. omega arith) (λ l e. d e) (A t)))
+      (either (σ .last + 1) t)
+  stands (takes w) = A
+  stands (answers {s = s} {t = t} {a = a} w) = λ u.
+      let l = ok .in-hand s (w .in-hand) in
+      let x = is-session σ ok (λ x. x .count) refl s (omega arith) in
+      ⊎-elim
+      (λ (q : t ≡ u). rw (eq-eqb _ _ q, ← (w .command))
+      (its-answer (σ .last) (σ .slot) u _ _ _ s (w .ticket ∙ q) (omega (arith, w .ticket, x .ticket-low)) (omega (arith, w .ticket, x .ticket-high))
+      (λ i k. sym (ok .distinct s i (x .ticket-low) (w .ticket ∙ q ∙ sym k))) a (A u)))
+      (λ (d : t ≡ u → ⊥). rw (ne-eqb _ _ d)
+      (apart (σ .last) (σ .slot) u _ _ _ s (σ .last) _ (omega arith) (λ k f. d (sym (w .ticket) ∙ f)) (λ k f. d (sym (w .ticket) ∙ f)) (A u)))
+      (either t u)
+  stands (collects {s = s} {t = t} w) = λ u.
+      let x = is-session σ ok (λ x. x .program) refl s (omega (arith, w .program, w .program-low)) in
+      ⊎-elim
+      (λ (q : t ≡ u). rw (eq-eqb _ _ q, ← (w .program))
+      (its-collection (σ .last) (σ .slot) u _ _ _ s (w .ticket ∙ q) (omega (arith, w .ticket, x .ticket-low)) (omega (arith, w .ticket, x .ticket-high))
+      (λ i k. sym (ok .distinct s i (x .ticket-low) (w .ticket ∙ q ∙ sym k))) (w .closed) (A u)))
+      (λ (d : t ≡ u → ⊥). rw (ne-eqb _ _ d)
+      (apart (σ .last) (σ .slot) u _ _ _ s (σ .last) _ (omega arith) (λ k f. d (sym (w .ticket) ∙ f)) (λ k f. omega arith) (A u)))
+      (either t u)
+
+pub agrees : (max : ℕ) → 1 ≤ max → max ≤ sessions → (cs : List Call) → Agrees (table max cs) (history max cs)
+unfolding table history
+agrees max l k [] = fresh-agrees max l k
+agrees max l k (c ∷ cs) =
+    let A = agrees max l k cs in
+    let d = did (table max cs) c in
+    record { sound = sound-kept d (A .sound); standing = stands (table max cs) (history max cs) (A .sound) (A .standing) d }

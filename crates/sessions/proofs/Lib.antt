@@ -1,0 +1,11 @@
+pub mod Laws
+pub mod Loops
+pub mod Parts
+pub mod Did
+pub mod SoundKept
+pub mod Standing
+pub mod Agrees
+pub mod Answers
+pub mod Past
+pub mod Claims
+pub mod Carried

@@ -1,0 +1,77 @@
+-- The laws that a loop cites: over a test of every number below n, over a search for the lowest, over the first n values. Assumes nothing.
+use Prim.Native.Nat.{ℕ, zero, suc, _+_, _<_}
+use mathlib.Core.Path.{_≡_, refl, sym, _∙_, ap}
+use mathlib.Core.Bool.{Bool, true, false, cond, _&&_, and-false, and-true, and-assoc}
+use mathlib.Core.Logic.{⊎-elim}
+use mathlib.Core.List.{List, [], _∷_, _++_}
+use native.Mathlib.Nat.{eq-or-lt-of-le}
+use native.Mathlib.Numerals.{add-one}
+use native.Mathlib.Omega.{arith}
+use lib.ListN.{length, length-append}
+use Rattle.sessions.specs.Find.{none, at, orNone, find, all, first}
+use Rattle.sessions.specs.Sound.{isReal, allReal}
+use Rattle.sessions.specs.declared.Answer.{Answer}
+
+-- ---- every number below n
+
+pub all-none : (p : ℕ → Bool) → all 0 p ≡ true
+unfolding all
+all-none p = refl
+
+pub all-more : (p : ℕ → Bool) {n : ℕ} → all n p ≡ true → p n ≡ true → all (n + 1) p ≡ true
+unfolding all
+all-more p {n} h e = rw (add-one, h, e)
+
+pub all-fails : (p : ℕ → Bool) (n : ℕ) {i : ℕ} → i < n → p i ≡ false → all n p ≡ false
+unfolding all
+all-fails p zero h e = absurd (omega arith)
+all-fails p (suc n) {i} h e =
+    ⊎-elim (λ q. rw (← q, e, and-false)) (λ l. rw (all-fails p n l e)) (eq-or-lt-of-le {n = i} {m = n} (omega arith))
+
+pub all-end : (p : ℕ → Bool) {i n : ℕ} → all i p ≡ true → i ≡ n → all n p ≡ true
+all-end p h e = rw (← e) h
+
+-- ---- the lowest number below n
+
+pub find-none : (p : ℕ → Bool) → find 0 p ≡ none
+unfolding find
+find-none p = refl
+
+pub find-more : (p : ℕ → Bool) {n : ℕ} → find n p ≡ none → p n ≡ false → find (n + 1) p ≡ none
+unfolding find
+find-more p {n} h e = rw (add-one, h, e)
+
+find-hit : (p : ℕ → Bool) (m : ℕ) {n : ℕ} → find n p ≡ none → p n ≡ true → n < m → find m p ≡ at n
+unfolding find
+find-hit p zero h e l = absurd (omega arith)
+find-hit p (suc m) {n} h e l =
+    ⊎-elim (λ q. rw (← q, h, e)) (λ k. rw (find-hit p m h e k)) (eq-or-lt-of-le {n = n} {m = m} (omega arith))
+
+-- where a search ends
+pub hit-is : (p : ℕ → Bool) (m k : ℕ) {n : ℕ} → find n p ≡ none → p n ≡ true → n < m → n ≡ orNone (find m p) k
+hit-is p m k h e l = rw (find-hit p m h e l)
+
+pub end-is : (p : ℕ → Bool) {i n r : ℕ} → find i p ≡ none → i ≡ n → r ≡ n → r ≡ orNone (find n p) n
+end-is p {i} {n} {r} h e q = q ∙ sym (ap (λ f. orNone f n) (ap (λ k. find k p) (sym e) ∙ h))
+
+-- ---- the first n values
+
+pub length-first : {A : Type 0} (n : ℕ) (f : ℕ → A) → length (first n f) ≡ n
+unfolding first
+length-first zero f = refl
+length-first (suc n) f = rw (length-append, length-first n f, add-one)
+
+pub first-same : {A : Type 0} (n : ℕ) (f g : ℕ → A) → ((i : ℕ) → i < n → f i ≡ g i) → first n f ≡ first n g
+unfolding first
+first-same zero f g h = refl
+first-same (suc n) f g h = rw (first-same n f g (λ i l. h i (omega arith)), h n (omega arith))
+
+all-real-append : (l m : List Answer) → allReal (l ++ m) ≡ (allReal l && allReal m)
+unfolding allReal
+all-real-append [] m = refl
+all-real-append (a ∷ l) m = ap (λ r. isReal a && r) (all-real-append l m) ∙ sym (and-assoc (isReal a) (allReal l) (allReal m))
+
+pub all-real : (n : ℕ) (f : ℕ → Answer) → allReal (first n f) ≡ all n (λ i. isReal (f i))
+unfolding first all allReal
+all-real zero f = refl
+all-real (suc n) f = all-real-append (first n f) (f n ∷ []) ∙ rw (all-real n f, and-true)

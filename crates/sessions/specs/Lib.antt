@@ -1,0 +1,6 @@
+pub mod Find
+pub mod Records
+pub mod Table
+pub mod Sound
+pub mod History
+pub mod Owed

@@ -1,0 +1,18 @@
+use Rattle.laws.proofs.Choose.{choose}
+use Rattle.sessions.specs.Sound.{isReal}
+use borrow.Author.Needs.{needs}
+use Rattle.table_sound.proofs.is_real.Statement.{statement}
+use Rattle.table_sound.proofs.is_real.Tie as tie
+
+is-dated-requires : tie.Need-is-dated-requires
+is-dated-requires c κs = search needs
+
+is-outcome-requires : tie.Need-is-outcome-requires
+is-outcome-requires c κs = search needs
+
+returns : tie.Need-returns
+unfolding isReal
+returns c = search choose
+
+pub is-real-spec : {M : Type 1} → statement M
+is-real-spec = tie.close (tie.spec is-dated-requires is-outcome-requires returns)
