@@ -120,4 +120,3 @@ module _ (x : ℕ) (v : List ℕ) where
   pub next-item-up : (i : ℕ) (k : Next) → nextItem v i ≡ k → nextItem (x ∷ v) (suc i) ≡ upItem k
   unfolding nextItem
   next-item-up i k e = ap (itemOf (x ∷ v)) (next-up i) ∙ item-up (nextToken v i) ∙ ap upItem e
-

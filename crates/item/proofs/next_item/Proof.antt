@@ -1,3 +1,4 @@
+-- `item::next_item` meets its contract. Assumes nothing.
 use Rattle.item.proofs.Standing.{stood}
 use Rattle.item.specs.Items.{numbered}
 use Rattle.token.proofs.Ahead.{lies, number-inside, time-inside}
