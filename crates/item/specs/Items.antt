@@ -3,8 +3,12 @@
 use Prim.Native.Nat.{ℕ, _+_, _-_, _≤_}
 use mathlib.Core.Path.{_≡_}
 use mathlib.Core.List.{List}
+use lib.IntN.{pos}
 use lib.ListN.{length}
 use Rattle.counts.specs.Limits.{fileBytes}
+use Rattle.field.specs.Part.{part}
+use Rattle.number.specs.Number.{numberOf}
+use Rattle.number.specs.declared.Number.{Number as NumberRead}
 use Rattle.token.specs.Token.{nextToken}
 use Rattle.token.specs.declared.Operator.{Operator}
 use Rattle.token.specs.declared.Operator.the-variants.{Equal, NotEqual, Above, Below, AtLeast, AtMost}
@@ -30,17 +34,23 @@ operatorNo Below = 3
 operatorNo AtLeast = 4
 operatorNo AtMost = 5
 
--- a token of s from start to end, by its class, with a date's, a time's or an operator's number
+abbrev pub zero : NumberRead
+zero = record { mantissa = pos 0; scale = 0 }
+
+-- a token of s from start to end, by its class, with a date's, a time's or an operator's number, and with what a number reads as
+abbrev pub madeOf : ℕ → ℕ → ℕ → ℕ → ℕ → NumberRead → Item
+madeOf base class start end value number =
+    record { class = class; place = base + start; length = end - start; next = base + end; value = value; number = number }
+
 abbrev pub made : ℕ → ℕ → ℕ → ℕ → ℕ → Item
-made base class start end value =
-    record { class = class; place = base + start; length = end - start; next = base + end; value = value }
+made base class start end value = madeOf base class start end value zero
 
 unfoldable pub numbered : ℕ → List ℕ → Token → Item
 numbered base s (End p) = made base endNo p p 0
 numbered base s (Fault w p) = made base noneNo p p 0
 numbered base s (Word a b) = made base (classNo (wordClass s a b)) a b 0
 numbered base s (TimeGe a b) = made base (classNo TIME≥) a b 0
-numbered base s (Number a b) = made base (classNo (numberClass s a b)) a b (dateNumber s a b)
+numbered base s (Number a b) = madeOf base (classNo (numberClass s a b)) a b (dateNumber s a b) (numberOf (part s a (b - a)))
 numbered base s (Time a b) = made base (classNo (timeClass s a)) a b (timeNumber s a)
 numbered base s (Text a b) = made base (classNo string) a b 0
 numbered base s (Sign o a b) = made base (classNo operator) a b (operatorNo o)

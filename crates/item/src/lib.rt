@@ -3,6 +3,8 @@ use calendar::is_real_date;
 use calendar::is_real_time;
 use decimal::DigitsRead;
 use decimal::digits_at;
+use number::Number;
+use number::number_at;
 use scan::is_word;
 use token::Operator;
 use token::Token;
@@ -12,8 +14,11 @@ ghost use Prim.Native.Nat.{_+_, _-_, _≤_, _<_};
 ghost use lib.ListN.{length};
 ghost use Rattle.counts.specs.Limits.{fileBytes};
 ghost use Rattle.grammar.specs.Grammar.{classNo};
+ghost use Rattle.field.specs.Part.{part};
+ghost use Rattle.token.specs.Token.{Short};
+ghost use Rattle.number.specs.Number.{numberOf};
 ghost use Rattle.item.specs.Tokens.{isOther, abortClass, clauseClass, wordClass, numberClass, dateNumber, twoAt, timeClass, timeNumber};
-ghost use Rattle.item.specs.Items.{operatorNo, made, numbered, itemAt, Seen, Stood};
+ghost use Rattle.item.specs.Items.{operatorNo, madeOf, made, numbered, itemAt, Seen, Stood};
 
 // The classes of tokens.
 
@@ -69,13 +74,15 @@ pub const END: u8 = 22;
 // no token
 pub const NONE: u8 = 23;
 
-// A token by its class: its first byte and the place after it, counted from the file's start, and a date's, a time's or an operator's number.
+// A token by its class: its first byte and the place after it, counted from the file's start; a date's, a time's or an operator's number; and
+// what a number reads as.
 pub struct Item {
     pub class: u8,
     pub place: usize,
     pub length: usize,
     pub next: usize,
     pub value: u32,
+    pub number: Number,
 }
 
 // A reserved word that no production takes.
@@ -160,9 +167,9 @@ fn operator_no(o: Operator) -> u32
 }
 
 // An item of a class, from start to end of the bytes that begin at base.
-fn item_of(base: usize, class: u8, start: usize, end: usize, value: u32) -> Item
+fn item_with(base: usize, class: u8, start: usize, end: usize, value: u32, number: Number) -> Item
     requires { ⌜ (start ≤ end) × (base + end < 18446744073709551616) ⌝ }
-    ensures { λ r. ⌜ r ≡ made base class start end value ⌝ }
+    ensures { λ r. ⌜ r ≡ madeOf base class start end value number ⌝ }
 {
     Item {
         class,
@@ -170,25 +177,39 @@ fn item_of(base: usize, class: u8, start: usize, end: usize, value: u32) -> Item
         length: end - start,
         next: base + end,
         value,
+        number,
     }
+}
+
+// The same of a token that is no number.
+fn item_of(base: usize, class: u8, start: usize, end: usize, value: u32) -> Item
+    requires { ⌜ (start ≤ end) × (base + end < 18446744073709551616) ⌝ }
+    ensures { λ r. ⌜ r ≡ made base class start end value ⌝ }
+{
+    let number = Number {
+        mantissa: 0,
+        scale: 0,
+    };
+    item_with(base, class, start, end, value, number)
 }
 
 // The number from a to b: of eight bare digits it may be a date.
 fn number_item(s: &[u8], base: usize, a: usize, b: usize) -> Item
-    requires { ⌜ (a ≤ b) × (base + b < 18446744073709551616) ⌝ }
-    ensures { λ r. ⌜ r ≡ made base (classNo (numberClass (now (s .entry)) a b)) a b (dateNumber (now (s .entry)) a b) ⌝ }
+    requires { ⌜ Short (now s) a b × (base + b < 18446744073709551616) ⌝ }
+    ensures { λ r. ⌜ r ≡ madeOf base (classNo (numberClass (now (s .entry)) a b)) a b (dateNumber (now (s .entry)) a b) (numberOf (part (now (s .entry)) a (b - a))) ⌝ }
 {
+    let number = number_at(s, a, b - a);
     if b - a == 8 {
         let DigitsRead::Value(n) = digits_at(s, a, 8) else {
-            return item_of(base, NUMBER, a, b, 0);
+            return item_with(base, NUMBER, a, b, 0, number);
         };
         let day = n as u32;
         if is_real_date(day) {
-            return item_of(base, DATE, a, b, day);
+            return item_with(base, DATE, a, b, day, number);
         }
-        return item_of(base, UNREAL_DATE, a, b, day);
+        return item_with(base, UNREAL_DATE, a, b, day, number);
     }
-    item_of(base, NUMBER, a, b, 0)
+    item_with(base, NUMBER, a, b, 0, number)
 }
 
 // The number of two digits at a.

@@ -4,17 +4,18 @@ use mathlib.Core.Path.{_≡_, refl, sym, _∙_, ap}
 use mathlib.Core.Bool.{Bool, true, false, true≢false, cond, _||_, _&&_}
 use mathlib.Core.List.{List, [], _∷_}
 use native.Mathlib.Omega.{arith}
-use borrow.Author.Tests.{ltb-true, ltb-false}
+use borrow.Author.Tests.{ltb-true, ltb-false, leb-true}
 use lib.Dec.{ltb, leb, eqb}
 use lib.ListN.{length, getD, drop, length-drop, List·getD-eq-default}
 use lib.Seq.{drop-cons}
-use Rattle.counts.specs.Limits.{wordBytes, textBytes}
+use Rattle.counts.specs.Limits.{wordBytes, textBytes, numberDigits}
+use Rattle.laws.proofs.Choose.{and-right}
 use Rattle.field.specs.Bytes.{ascii, hasAt}
 use Rattle.field.proofs.Same.{has-room}
 use Rattle.scan.specs.Kinds.{isDigit, isLetter, isWordByte, isNumericByte, isTextByte}
 use Rattle.scan.specs.Run.{run, runEnd, blankEnd}
 use Rattle.scan.proofs.Settled.{Onward, onward}
-use Rattle.token.specs.Token.{contentEnd, wordAt, textAt, isTimeAt, isNumberAt, shapedAt, numericAt, signAt, tokenAt, nextToken}
+use Rattle.token.specs.Token.{contentEnd, wordAt, textAt, isTimeAt, isNumberAt, shapedAt, numericAt, signAt, tokenAt, nextToken, Short}
 use Rattle.token.specs.declared.Operator.{Operator}
 use Rattle.token.specs.declared.Why.{Why}
 use Rattle.token.specs.declared.Token.{Token}
@@ -31,7 +32,7 @@ pub data Ahead (s : List ℕ) (i : ℕ) : Token → Type 0 where
   a-fault : {w : Why} → i < length s → Ahead s i (Fault w i)
   a-word : {b : ℕ} → Span s i b → Ahead s i (Word i b)
   a-time-ge : {b : ℕ} → Span s i b → Ahead s i (TimeGe i b)
-  a-number : {b : ℕ} → Span s i b → Ahead s i (Number i b)
+  a-number : {b : ℕ} → Span s i b → b ≤ i + 18 → Ahead s i (Number i b)
   a-time : {b : ℕ} → Span s i b → Ahead s i (Time i b)
   a-text : {b : ℕ} → Span s i b → Ahead s i (Text i b)
   a-sign : {o : Operator} {b : ℕ} → Span s i b → Ahead s i (Sign o i b)
@@ -50,6 +51,11 @@ digit false b e f = sym f ∙ e
 numeric-byte : (a u v w : Bool) → ((a || true || u) || v || w) ≡ true
 numeric-byte true u v w = refl
 numeric-byte false u v w = refl
+
+-- of two ways to pass a test, each bounds e
+short-of : (b x : Bool) (m n e : ℕ) → cond b (leb e m) (x && leb e n) ≡ true → m ≤ n → e ≤ n
+short-of true x m n e k l = omega (arith, leb-true e m k)
+short-of false x m n e k l = leb-true e n (and-right x (leb e n) k)
 
 -- runs lie within the bytes
 run-fits : (p : ℕ → Bool) (xs : List ℕ) → run p xs ≤ length xs
@@ -93,18 +99,27 @@ module _ (s : List ℕ) (i : ℕ) where
       (λ h. a-time-ge (omega (arith, has-room s i (ascii "TIME>=") (omega arith) h)))
       (λ h. either (leb (runEnd isWordByte s i) (i + wordBytes)) (a-word (omega (arith, past isWordByte l (rw e), up-to isWordByte i (omega arith)))) (a-fault l))
 
-  shaped : (d : ℕ) → i < length s → d ≤ length s → i < runEnd isNumericByte s d → Ahead s i (shapedAt s i d)
+  -- a number has at most 16 digits and a point, and a sign before its first digit
+  number-short : (d e : ℕ) → isNumberAt s d e ≡ true → e ≤ d + numberDigits + 1
+  unfolding isNumberAt
+  number-short d e h =
+      short-of (eqb (runEnd isDigit s d) e)
+      (eqb (getD s (runEnd isDigit s d) 0) 46 && isDigit (getD s (runEnd isDigit s d + 1) 0) && eqb (runEnd isDigit s (runEnd isDigit s d + 1)) e)
+      (d + numberDigits) (d + numberDigits + 1) e h (omega arith)
+
+  shaped : (d : ℕ) → d ≤ i + 1 → i < length s → d ≤ length s → i < runEnd isNumericByte s d → Ahead s i (shapedAt s i d)
   unfolding shapedAt
-  shaped d k m l =
+  shaped d n k m l =
       let r : Span s i (runEnd isNumericByte s d) = omega (arith, up-to isNumericByte d m) in
-      either (isTimeAt s i (runEnd isNumericByte s d)) (a-time r) (either (isNumberAt s d (runEnd isNumericByte s d)) (a-number r) (a-fault k))
+      either (isTimeAt s i (runEnd isNumericByte s d)) (a-time r)
+      (choice (Ahead s i) (isNumberAt s d (runEnd isNumericByte s d)) (λ h. a-number r (omega (arith, number-short d (runEnd isNumericByte s d) h))) (λ h. a-fault k))
 
   numeric : i < length s → (isDigit (getD s i 0) || eqb (getD s i 0) 45) ≡ true → Ahead s i (numericAt s i)
   unfolding numericAt
   numeric l e =
       choice (Ahead s i) (eqb (getD s i 0) 45)
-      (λ m. choice (Ahead s i) (isDigit (getD s (i + 1) 0)) (λ d. shaped (i + 1) l (omega arith) (omega (arith, from isNumericByte (i + 1)))) (λ d. a-fault l))
-      (λ m. shaped i l (omega arith) (past isNumericByte l (rw (digit (isDigit (getD s i 0)) (eqb (getD s i 0) 45) e m) (numeric-byte (isLetter (getD s i 0)) (eqb (getD s i 0) 95) (eqb (getD s i 0) 46) (eqb (getD s i 0) 58)))))
+      (λ m. choice (Ahead s i) (isDigit (getD s (i + 1) 0)) (λ d. shaped (i + 1) (omega arith) l (omega arith) (omega (arith, from isNumericByte (i + 1)))) (λ d. a-fault l))
+      (λ m. shaped i (omega arith) l (omega arith) (past isNumericByte l (rw (digit (isDigit (getD s i 0)) (eqb (getD s i 0) 45) e m) (numeric-byte (isLetter (getD s i 0)) (eqb (getD s i 0) 95) (eqb (getD s i 0) 46) (eqb (getD s i 0) 58)))))
 
   text : i < length s → Ahead s i (textAt s i)
   unfolding textAt
@@ -170,7 +185,7 @@ lies-from (the-end l) = omega arith
 lies-from (a-fault l) = omega arith
 lies-from (a-word r) = omega arith
 lies-from (a-time-ge r) = omega arith
-lies-from (a-number r) = omega arith
+lies-from (a-number r n) = omega arith
 lies-from (a-time r) = omega arith
 lies-from (a-text r) = omega arith
 lies-from (a-sign r) = omega arith
@@ -190,3 +205,10 @@ time-within (a-time r) = r .inside
 pub time-inside : (s : List ℕ) (i a b : ℕ) (r : Token) → r ≡ nextToken s i → r ≡ Time a b → b ≤ length s
 unfolding nextToken
 time-inside s i a b r d e = time-within (rw (sym d ∙ e) at (ahead s (blankEnd false s i)))
+
+number-within : {s : List ℕ} {i a b : ℕ} → Ahead s i (Number a b) → Short s a b
+number-within (a-number r n) = record { ahead = r .ahead; inside = r .inside; short = n }
+
+pub number-inside : (s : List ℕ) (i a b : ℕ) (r : Token) → r ≡ nextToken s i → r ≡ Number a b → Short s a b
+unfolding nextToken
+number-inside s i a b r d e = number-within (rw (sym d ∙ e) at (ahead s (blankEnd false s i)))

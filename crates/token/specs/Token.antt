@@ -1,6 +1,6 @@
 -- The tokens of a job file (document 01, "Bytes and tokens"): each definition stands under its rule there. "A token is the longest run of
 -- its kind". Where no token stands, `Fault` keeps why.
-use Prim.Native.Nat.{ℕ, _+_, _-_}
+use Prim.Native.Nat.{ℕ, _+_, _-_, _≤_, _<_}
 use mathlib.Core.Bool.{Bool, false, cond, _&&_, _||_}
 use mathlib.Core.List.{List}
 use lib.Dec.{eqb, leb, ltb}
@@ -97,3 +97,9 @@ tokenAt s i =
 -- the next token from at on
 unfoldable pub nextToken : List ℕ → ℕ → Token
 nextToken s at = tokenAt s (blankEnd false s at)
+
+-- the bytes of a number from a to b, of which there are at most 18, within the file
+pub record Short (s : List ℕ) (a b : ℕ) : Type 0 where
+  pub ahead : a < b
+  pub inside : b ≤ length s
+  pub short : b ≤ a + 18

@@ -1,3 +1,4 @@
+-- `item::abort_class` meets its contract. Assumes nothing.
 use Rattle.item.proofs.Classes.{classes}
 use Rattle.item.specs.Tokens.{abortClass}
 use borrow.Author.Needs.{needs}

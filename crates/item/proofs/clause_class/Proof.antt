@@ -1,3 +1,4 @@
+-- `item::clause_class` meets its contract. Assumes nothing.
 use Rattle.item.proofs.Classes.{classes}
 use Rattle.item.specs.Tokens.{clauseClass}
 use borrow.Author.Needs.{needs}

@@ -1,3 +1,4 @@
+-- `item::is_other` meets its contract. Assumes nothing.
 use Rattle.item.proofs.Classes.{classes}
 use Rattle.item.specs.Tokens.{isOther}
 use borrow.Author.Needs.{needs}

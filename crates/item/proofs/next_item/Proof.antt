@@ -1,6 +1,7 @@
+-- `item::next_item` meets its contract. Assumes nothing.
 use Rattle.item.proofs.Standing.{stood}
 use Rattle.item.specs.Items.{numbered}
-use Rattle.token.proofs.Ahead.{lies, time-inside}
+use Rattle.token.proofs.Ahead.{lies, number-inside, time-inside}
 use native.Mathlib.Omega.{arith}
 use borrow.Author.Needs.{needs}
 use Rattle.item.proofs.next_item.Statement.{statement}
@@ -43,7 +44,7 @@ enum-known-start-3 : tie.Need-enum-known-start-3
 enum-known-start-3 c = search needs
 
 number-item-requires : tie.Need-number-item-requires
-number-item-requires c κs = let l = lies _ _ _ _ (c .before .before .before .next-token .ensures) (c .before .start3 .given .1) in omega arith
+number-item-requires c κs = let l = lies _ _ _ _ (c .before .before .before .next-token .ensures) (c .before .start3 .given .1) in (number-inside _ _ _ _ _ (c .before .before .before .next-token .ensures) (c .before .start3 .given .1), omega arith)
 
 enum-known-start-4 : tie.Need-enum-known-start-4
 enum-known-start-4 c = search needs

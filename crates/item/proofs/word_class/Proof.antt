@@ -1,3 +1,4 @@
+-- `item::word_class` meets its contract. Assumes nothing.
 use Rattle.item.proofs.Classes.{classes}
 use Rattle.item.specs.Tokens.{wordClass}
 use borrow.Author.Needs.{needs}

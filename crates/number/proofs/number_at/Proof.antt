@@ -1,3 +1,4 @@
+-- `number::number_at` meets its contract. Assumes nothing.
 use Rattle.number.proofs.Digits.{is-number}
 use mir.ValLaws.{toZ-ofZ}
 use mir.Syntax.{w64}

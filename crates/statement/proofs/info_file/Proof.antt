@@ -1,0 +1,27 @@
+-- `statement::info_file` meets its contract. Assumes nothing.
+use Rattle.statement.specs.Statement.{oneOf, infoFile}
+use Rattle.laws.proofs.Choose.{choose}
+use borrow.Author.Needs.{needs}
+use Rattle.statement.proofs.info_file.Statement.{statement}
+use Rattle.statement.proofs.info_file.Tie as tie
+
+next-item-requires : tie.Need-next-item-requires
+next-item-requires c κs = search needs
+
+ending-requires : tie.Need-ending-requires
+ending-requires c κs = search needs
+
+returns : tie.Need-returns
+unfolding infoFile oneOf
+returns c = rw (← c .before .before .before .next-item .ensures .is) (search choose depth 9)
+
+unexpected-requires : tie.Need-unexpected-requires
+unexpected-requires c κs = search needs
+
+returns-2 : tie.Need-returns-2
+unfolding infoFile oneOf
+returns-2 c = rw (← c .before .before .before .next-item .ensures .is) (search choose depth 9)
+
+pub info-file-spec : {M : Type 1} → statement M
+info-file-spec =
+    tie.close (tie.spec next-item-requires ending-requires returns unexpected-requires returns-2)

@@ -1,0 +1,37 @@
+-- `statement::job_name` meets its contract. Assumes nothing.
+use Rattle.statement.specs.Statement.{oneOf, jobName}
+use Rattle.laws.proofs.Choose.{choose}
+use borrow.Author.Needs.{needs}
+use Rattle.statement.proofs.job_name.Statement.{statement}
+use Rattle.statement.proofs.job_name.Tie as tie
+
+next-item-requires : tie.Need-next-item-requires
+next-item-requires c κs = search needs
+
+part-of-requires : tie.Need-part-of-requires
+part-of-requires c κs = search needs
+
+job-response-requires : tie.Need-job-response-requires
+job-response-requires c κs = search needs
+
+returns : tie.Need-returns
+unfolding jobName oneOf
+returns c = rw (← c .before .before .before .before .next-item .ensures .is, ← c .before .part-of .ensures) (search choose depth 9)
+
+unexpected-requires : tie.Need-unexpected-requires
+unexpected-requires c κs = search needs
+
+returns-2 : tie.Need-returns-2
+unfolding jobName oneOf
+returns-2 c = rw (← c .before .before .before .next-item .ensures .is) (search choose depth 9)
+
+pub job-name-spec : {M : Type 1} → statement M
+job-name-spec =
+    tie.close
+    (tie.spec
+    next-item-requires
+    part-of-requires
+    job-response-requires
+    returns
+    unexpected-requires
+    returns-2)

@@ -1,0 +1,37 @@
+-- `statement::start_operator` meets its contract. Assumes nothing.
+use Rattle.statement.specs.Statement.{oneOf, startOperator}
+use Rattle.laws.proofs.Choose.{choose}
+use borrow.Author.Needs.{needs}
+use Rattle.statement.proofs.start_operator.Statement.{statement}
+use Rattle.statement.proofs.start_operator.Tie as tie
+
+next-item-requires : tie.Need-next-item-requires
+next-item-requires c κs = search needs
+
+operator-of-requires : tie.Need-operator-of-requires
+operator-of-requires c κs = search needs
+
+start-value-requires : tie.Need-start-value-requires
+start-value-requires c κs = search needs
+
+returns : tie.Need-returns
+unfolding startOperator oneOf
+returns c = rw (← c .before .before .before .before .next-item .ensures .is, ← c .before .operator-of .ensures) (search choose depth 9)
+
+unexpected-requires : tie.Need-unexpected-requires
+unexpected-requires c κs = search needs
+
+returns-2 : tie.Need-returns-2
+unfolding startOperator oneOf
+returns-2 c = rw (← c .before .before .before .next-item .ensures .is) (search choose depth 9)
+
+pub start-operator-spec : {M : Type 1} → statement M
+start-operator-spec =
+    tie.close
+    (tie.spec
+    next-item-requires
+    operator-of-requires
+    start-value-requires
+    returns
+    unexpected-requires
+    returns-2)

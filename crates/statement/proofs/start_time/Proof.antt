@@ -1,0 +1,42 @@
+-- `statement::start_time` meets its contract. Assumes nothing.
+use Rattle.statement.specs.Statement.{oneOf, startTime}
+use Rattle.laws.proofs.Choose.{choose}
+use borrow.Author.Needs.{needs}
+use Rattle.statement.proofs.start_time.Statement.{statement}
+use Rattle.statement.proofs.start_time.Tie as tie
+
+next-item-requires : tie.Need-next-item-requires
+next-item-requires c κs = search needs
+
+start-date-requires : tie.Need-start-date-requires
+start-date-requires c κs = search needs
+
+returns : tie.Need-returns
+unfolding startTime oneOf
+returns c = rw (← c .before .before .before .next-item .ensures .is) (search choose depth 9)
+
+no-requires : tie.Need-no-requires
+no-requires c κs = search needs
+
+returns-2 : tie.Need-returns-2
+unfolding startTime oneOf
+returns-2 c = rw (← c .before .before .before .before .before .next-item .ensures .is) (search choose depth 9)
+
+unexpected-requires : tie.Need-unexpected-requires
+unexpected-requires c κs = search needs
+
+returns-3 : tie.Need-returns-3
+unfolding startTime oneOf
+returns-3 c = rw (← c .before .before .before .before .before .next-item .ensures .is) (search choose depth 9)
+
+pub start-time-spec : {M : Type 1} → statement M
+start-time-spec =
+    tie.close
+    (tie.spec
+    next-item-requires
+    start-date-requires
+    returns
+    no-requires
+    returns-2
+    unexpected-requires
+    returns-3)

@@ -1,0 +1,472 @@
+// The statements of a job file: one function to a word of the grammar, each from the place where its first token is looked for.
+use counts::NO_TOKEN;
+use counts::NOT_REAL;
+use counts::Refusal;
+use counts::UNEXPECTED;
+use item::ABORT;
+use item::ACTIVE;
+use item::DATE;
+use item::DOWNLOAD;
+use item::EVENT;
+use item::GETINFO;
+use item::IMMEDIATE;
+use item::Item;
+use item::JOB;
+use item::NAME;
+use item::NONE;
+use item::NUMBER;
+use item::OPERATOR;
+use item::REPORT;
+use item::RESPONSE;
+use item::SEMICOLON;
+use item::START;
+use item::STRING;
+use item::TIME;
+use item::TIME_GE;
+use item::UNREAL_DATE;
+use item::UNREAL_TIME;
+use item::UPLOAD;
+use item::next_item;
+use number::Number;
+use token::Operator;
+ghost use mathlib.Core.Path.{_≡_};
+ghost use Rattle.item.specs.Items.{Seen};
+ghost use Rattle.statement.specs.Statement.{no, unexpectedAt, partOf, operatorOf, condition, transferred, transfer, ending, jobFile, jobResponse, jobName, isNumberNo, startValue, startOperator, startDate, startTime, startKind, moveStart, moveSource, moveFile, infoFile, abortName, abortKind, statementOf};
+
+// A part of the file: the place of its first byte, and its length. A name is held so.
+pub struct Part {
+    pub place: usize,
+    pub length: usize,
+}
+
+// What is moved: the active set, a file spec by the place of its opening quote, or a name.
+pub enum Source {
+    Active,
+    File(usize),
+    Name(Part),
+}
+
+// The optional date of a time, yyyymmdd.
+pub enum Day {
+    Any,
+    On(u32),
+}
+
+// A number, or a string by the place of its opening quote.
+pub enum Operand {
+    Number(Number),
+    Text(usize),
+}
+
+pub struct Condition {
+    pub name: Part,
+    pub operator: Operator,
+    pub operand: Operand,
+}
+
+// A start clause is one of three; a missing one reads as the first. A time is hhmmss.
+pub enum Start {
+    Immediate,
+    At(u32, Day),
+    When(Condition),
+}
+
+pub enum Aborted {
+    Report,
+    Event,
+}
+
+// A statement. A file spec is held as the place of its opening quote.
+pub enum Statement {
+    Job {
+        name: Part,
+        response: usize,
+    },
+    Upload {
+        file: usize,
+        source: Source,
+        start: Start,
+    },
+    Download {
+        file: usize,
+        source: Source,
+        start: Start,
+    },
+    GetInfo {
+        file: usize,
+    },
+    Abort {
+        what: Aborted,
+        name: Part,
+    },
+}
+
+// A statement and the place after its ;, or why there is none.
+pub enum StatementRead {
+    Is(Statement, usize),
+    Refused(Refusal),
+}
+
+// An UPLOAD or DOWNLOAD up to its start clause.
+pub struct Transfer {
+    pub download: bool,
+    pub file: usize,
+    pub source: Source,
+}
+
+fn no(number: u32, t: Item) -> StatementRead
+    ensures { λ r. ⌜ r ≡ no number t ⌝ }
+{
+    StatementRead::Refused(Refusal {
+        number,
+        place: t.place,
+    })
+}
+
+// A token that may not stand, or no token.
+fn unexpected(t: Item) -> StatementRead
+    ensures { λ r. ⌜ r ≡ unexpectedAt t ⌝ }
+{
+    if t.class == NONE {
+        return no(NO_TOKEN, t);
+    }
+    no(UNEXPECTED, t)
+}
+
+fn part_of(t: Item) -> Part
+    ensures { λ r. ⌜ r ≡ partOf t ⌝ }
+{
+    Part {
+        place: t.place,
+        length: t.length,
+    }
+}
+
+fn operator_of(n: u32) -> Operator
+    ensures { λ r. ⌜ r ≡ operatorOf n ⌝ }
+{
+    if n == 0 {
+        return Operator::Equal;
+    }
+    if n == 1 {
+        return Operator::NotEqual;
+    }
+    if n == 2 {
+        return Operator::Above;
+    }
+    if n == 3 {
+        return Operator::Below;
+    }
+    if n == 4 {
+        return Operator::AtLeast;
+    }
+    Operator::AtMost
+}
+
+fn start_when(name: Part, operator: Operator, operand: Operand) -> Start
+    ensures { λ r. ⌜ r ≡ condition name operator operand ⌝ }
+{
+    Start::When(Condition {
+        name,
+        operator,
+        operand,
+    })
+}
+
+// The statement that a start clause completes.
+fn transferred(m: Transfer, start: Start) -> Statement
+    ensures { λ r. ⌜ r ≡ transferred m start ⌝ }
+{
+    let source = m.source;
+    if m.download {
+        return Statement::Download {
+            file: m.file,
+            source,
+            start,
+        };
+    }
+    Statement::Upload {
+        file: m.file,
+        source,
+        start,
+    }
+}
+
+fn transfer_of(download: bool, file: usize, source: Source) -> Transfer
+    ensures { λ r. ⌜ r ≡ transfer download file source ⌝ }
+{
+    Transfer {
+        download,
+        file,
+        source,
+    }
+}
+
+// The ; that ends a statement.
+fn ending(s: &[u8], base: usize, at: usize, x: Statement) -> StatementRead
+    requires { ⌜ Seen base (now s) at ⌝ }
+    ensures { λ r. ⌜ r ≡ ending base (now (s .entry)) x at ⌝ }
+{
+    let t = next_item(s, base, at);
+    if t.class == SEMICOLON {
+        return StatementRead::Is(x, t.next);
+    }
+    unexpected(t)
+}
+
+// JOB, name, RESPONSE: the file spec.
+fn job_file(s: &[u8], base: usize, at: usize, name: Part) -> StatementRead
+    requires { ⌜ Seen base (now s) at ⌝ }
+    ensures { λ r. ⌜ r ≡ jobFile base (now (s .entry)) name at ⌝ }
+{
+    let t = next_item(s, base, at);
+    if t.class == STRING {
+        let x = Statement::Job {
+            name,
+            response: t.place,
+        };
+        return ending(s, base, t.next, x);
+    }
+    unexpected(t)
+}
+
+// JOB, name: RESPONSE.
+fn job_response(s: &[u8], base: usize, at: usize, name: Part) -> StatementRead
+    requires { ⌜ Seen base (now s) at ⌝ }
+    ensures { λ r. ⌜ r ≡ jobResponse base (now (s .entry)) name at ⌝ }
+{
+    let t = next_item(s, base, at);
+    if t.class == RESPONSE {
+        return job_file(s, base, t.next, name);
+    }
+    unexpected(t)
+}
+
+// JOB: its name.
+fn job_name(s: &[u8], base: usize, at: usize) -> StatementRead
+    requires { ⌜ Seen base (now s) at ⌝ }
+    ensures { λ r. ⌜ r ≡ jobName base (now (s .entry)) at ⌝ }
+{
+    let t = next_item(s, base, at);
+    if t.class == NAME {
+        return job_response(s, base, t.next, part_of(t));
+    }
+    unexpected(t)
+}
+
+// Whether a class is a number's: eight bare digits are a number too.
+fn is_number(class: u8) -> bool
+    ensures { λ r. ⌜ r ≡ isNumberNo class ⌝ }
+{
+    (class == NUMBER) | (class == DATE) | (class == UNREAL_DATE)
+}
+
+// START name, operator: the number or string.
+fn start_value(
+    s: &[u8],
+    base: usize,
+    at: usize,
+    m: Transfer,
+    name: Part,
+    o: Operator,
+) -> StatementRead
+    requires { ⌜ Seen base (now s) at ⌝ }
+    ensures { λ r. ⌜ r ≡ startValue base (now (s .entry)) m name o at ⌝ }
+{
+    let t = next_item(s, base, at);
+    if is_number(t.class) {
+        let n = t.number;
+        let start = start_when(name, o, Operand::Number(n));
+        return ending(s, base, t.next, transferred(m, start));
+    }
+    if t.class == STRING {
+        let start = start_when(name, o, Operand::Text(t.place));
+        return ending(s, base, t.next, transferred(m, start));
+    }
+    unexpected(t)
+}
+
+// START name: the operator.
+fn start_operator(s: &[u8], base: usize, at: usize, m: Transfer, name: Part) -> StatementRead
+    requires { ⌜ Seen base (now s) at ⌝ }
+    ensures { λ r. ⌜ r ≡ startOperator base (now (s .entry)) m name at ⌝ }
+{
+    let t = next_item(s, base, at);
+    if t.class == OPERATOR {
+        return start_value(s, base, t.next, m, name, operator_of(t.value));
+    }
+    unexpected(t)
+}
+
+// START TIME>= time: an optional date.
+fn start_date(s: &[u8], base: usize, at: usize, m: Transfer, clock: u32) -> StatementRead
+    requires { ⌜ Seen base (now s) at ⌝ }
+    ensures { λ r. ⌜ r ≡ startDate base (now (s .entry)) m clock at ⌝ }
+{
+    let t = next_item(s, base, at);
+    if t.class == DATE {
+        let start = Start::At(clock, Day::On(t.value));
+        return ending(s, base, t.next, transferred(m, start));
+    }
+    if t.class == SEMICOLON {
+        return StatementRead::Is(transferred(m, Start::At(clock, Day::Any)), t.next);
+    }
+    if t.class == UNREAL_DATE {
+        return no(NOT_REAL, t);
+    }
+    unexpected(t)
+}
+
+// START TIME>=: the time.
+fn start_time(s: &[u8], base: usize, at: usize, m: Transfer) -> StatementRead
+    requires { ⌜ Seen base (now s) at ⌝ }
+    ensures { λ r. ⌜ r ≡ startTime base (now (s .entry)) m at ⌝ }
+{
+    let t = next_item(s, base, at);
+    if t.class == TIME {
+        return start_date(s, base, t.next, m, t.value);
+    }
+    if t.class == UNREAL_TIME {
+        return no(NOT_REAL, t);
+    }
+    unexpected(t)
+}
+
+// START: what it waits for.
+fn start_kind(s: &[u8], base: usize, at: usize, m: Transfer) -> StatementRead
+    requires { ⌜ Seen base (now s) at ⌝ }
+    ensures { λ r. ⌜ r ≡ startKind base (now (s .entry)) m at ⌝ }
+{
+    let t = next_item(s, base, at);
+    if t.class == IMMEDIATE {
+        return ending(s, base, t.next, transferred(m, Start::Immediate));
+    }
+    if t.class == TIME_GE {
+        return start_time(s, base, t.next, m);
+    }
+    if t.class == NAME {
+        return start_operator(s, base, t.next, m, part_of(t));
+    }
+    unexpected(t)
+}
+
+// An optional start clause.
+fn move_start(s: &[u8], base: usize, at: usize, m: Transfer) -> StatementRead
+    requires { ⌜ Seen base (now s) at ⌝ }
+    ensures { λ r. ⌜ r ≡ moveStart base (now (s .entry)) m at ⌝ }
+{
+    let t = next_item(s, base, at);
+    if t.class == START {
+        return start_kind(s, base, t.next, m);
+    }
+    if t.class == SEMICOLON {
+        return StatementRead::Is(transferred(m, Start::Immediate), t.next);
+    }
+    unexpected(t)
+}
+
+// UPLOAD or DOWNLOAD, file spec: ACTIVE or a file spec or a name.
+fn move_source(s: &[u8], base: usize, at: usize, download: bool, file: usize) -> StatementRead
+    requires { ⌜ Seen base (now s) at ⌝ }
+    ensures { λ r. ⌜ r ≡ moveSource base (now (s .entry)) download file at ⌝ }
+{
+    let t = next_item(s, base, at);
+    if t.class == ACTIVE {
+        return move_start(s, base, t.next, transfer_of(download, file, Source::Active));
+    }
+    if t.class == STRING {
+        return move_start(
+            s,
+            base,
+            t.next,
+            transfer_of(download, file, Source::File(t.place)),
+        );
+    }
+    if t.class == NAME {
+        return move_start(
+            s,
+            base,
+            t.next,
+            transfer_of(download, file, Source::Name(part_of(t))),
+        );
+    }
+    unexpected(t)
+}
+
+// UPLOAD or DOWNLOAD: the file spec.
+fn move_file(s: &[u8], base: usize, at: usize, download: bool) -> StatementRead
+    requires { ⌜ Seen base (now s) at ⌝ }
+    ensures { λ r. ⌜ r ≡ moveFile base (now (s .entry)) download at ⌝ }
+{
+    let t = next_item(s, base, at);
+    if t.class == STRING {
+        return move_source(s, base, t.next, download, t.place);
+    }
+    unexpected(t)
+}
+
+// GETINFO: the file spec.
+fn info_file(s: &[u8], base: usize, at: usize) -> StatementRead
+    requires { ⌜ Seen base (now s) at ⌝ }
+    ensures { λ r. ⌜ r ≡ infoFile base (now (s .entry)) at ⌝ }
+{
+    let t = next_item(s, base, at);
+    if t.class == STRING {
+        return ending(s, base, t.next, Statement::GetInfo { file: t.place });
+    }
+    unexpected(t)
+}
+
+// ABORT, REPORT or EVENT: the name.
+fn abort_name(s: &[u8], base: usize, at: usize, what: Aborted) -> StatementRead
+    requires { ⌜ Seen base (now s) at ⌝ }
+    ensures { λ r. ⌜ r ≡ abortName base (now (s .entry)) what at ⌝ }
+{
+    let t = next_item(s, base, at);
+    if t.class == NAME {
+        let x = Statement::Abort {
+            what,
+            name: part_of(t),
+        };
+        return ending(s, base, t.next, x);
+    }
+    unexpected(t)
+}
+
+// ABORT: REPORT or EVENT.
+fn abort_kind(s: &[u8], base: usize, at: usize) -> StatementRead
+    requires { ⌜ Seen base (now s) at ⌝ }
+    ensures { λ r. ⌜ r ≡ abortKind base (now (s .entry)) at ⌝ }
+{
+    let t = next_item(s, base, at);
+    if t.class == REPORT {
+        return abort_name(s, base, t.next, Aborted::Report);
+    }
+    if t.class == EVENT {
+        return abort_name(s, base, t.next, Aborted::Event);
+    }
+    unexpected(t)
+}
+
+// A statement of any kind, from its first token t on.
+pub fn statement_of(s: &[u8], base: usize, t: Item) -> StatementRead
+    requires { ⌜ Seen base (now s) (t .next) ⌝ }
+    ensures { λ r. ⌜ r ≡ statementOf base (now (s .entry)) t ⌝ }
+{
+    if t.class == JOB {
+        return job_name(s, base, t.next);
+    }
+    if t.class == UPLOAD {
+        return move_file(s, base, t.next, false);
+    }
+    if t.class == DOWNLOAD {
+        return move_file(s, base, t.next, true);
+    }
+    if t.class == GETINFO {
+        return info_file(s, base, t.next);
+    }
+    if t.class == ABORT {
+        return abort_kind(s, base, t.next);
+    }
+    unexpected(t)
+}
