@@ -39,6 +39,9 @@ putNumber b i v = putW 4 b (4 * i) v
 
 -- ---- the table's own row: MaxSessions, the last ticket, the turn's mark, what is in hand
 
+abbrev pub maxAt : ℕ
+maxAt = 0
+
 abbrev pub lastAt : ℕ
 lastAt = 1
 
@@ -50,11 +53,11 @@ handAt = 3
 
 unfoldable pub tableOf : List ℕ → Table
 tableOf b =
-    record { max = number b 0; last = record { 0 = number b lastAt }; mark = record { 0 = number b markAt }; hand = number b handAt }
+    record { max = number b maxAt; last = record { 0 = number b lastAt }; mark = record { 0 = number b markAt }; hand = number b handAt }
 
 unfoldable pub putTable : List ℕ → Table → List ℕ
 putTable b t =
-    putNumber (putNumber (putNumber (putNumber b 0 (t .max)) lastAt (t .last .0)) markAt (t .mark .0)) handAt (t .hand)
+    putNumber (putNumber (putNumber (putNumber b maxAt (t .max)) lastAt (t .last .0)) markAt (t .mark .0)) handAt (t .hand)
 
 -- "A fresh table has no session, last ticket 0, nothing in hand, and 0 comes first in the turn."
 abbrev pub freshTable : ℕ → Table

@@ -27,7 +27,7 @@ ready-is b s h q l p t k =
     (eq-zero-or-pos (h .program))
 
 -- the turn as code takes it from the table's own row
-turn-of : (b : List ℕ) (t : Table) → t ≡ tableOf b → (i : ℕ) → turnOf t i ≡ turn (abs b) i
+pub turn-of : (b : List ℕ) (t : Table) → t ≡ tableOf b → (i : ℕ) → turnOf t i ≡ turn (abs b) i
 unfolding tableOf
 turn-of b t q i = rw q
 

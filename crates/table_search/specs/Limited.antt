@@ -6,13 +6,13 @@ use mathlib.Core.List.{List}
 use lib.Dec.{ltb}
 use lib.ListN.{length}
 use Rattle.counts.specs.Limits.{sessions}
-use Rattle.table_layout.specs.Layout.{tableBytes, number, markAt}
+use Rattle.table_layout.specs.Layout.{tableBytes, number, maxAt, markAt}
 use Rattle.table_layout.specs.declared.Table.{Table}
 
 pub record Limited (b : List ℕ) : Type 0 where
   pub size : length b ≡ tableBytes
-  pub limit : number b 0 ≤ sessions
-  pub mark : number b markAt < number b 0
+  pub limit : number b maxAt ≤ sessions
+  pub mark : number b markAt < number b maxAt
 
 -- the number that comes i places after the one that follows the mark, going round
 abbrev pub turnOf : Table → ℕ → ℕ

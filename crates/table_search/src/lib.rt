@@ -13,14 +13,14 @@ ghost use lib.ListN.{length};
 ghost use Rattle.counts.specs.Limits.{sessions};
 ghost use Rattle.sessions.specs.Find.{find, orNone};
 ghost use Rattle.sessions.specs.Table.{isOpen, isWaiting, isReady, turn};
-ghost use Rattle.table_layout.specs.Layout.{tableBytes, number};
+ghost use Rattle.table_layout.specs.Layout.{tableBytes, number, maxAt};
 ghost use Rattle.table_sound.specs.Bytes.{slotOf, abs};
 ghost use Rattle.table_search.specs.Limited.{Limited, turnOf};
 
 // "takes the lowest open number"
 pub fn lowest_open(b: &[u8]) -> u32
     requires { ⌜ Limited (now b) ⌝ }
-    ensures { λ r. ⌜ r ≡ orNone (find (number (now (b .entry)) 0) (λ s. isOpen (slotOf (now (b .entry)) s))) (number (now (b .entry)) 0) ⌝ }
+    ensures { λ r. ⌜ r ≡ orNone (find (number (now (b .entry)) maxAt) (λ s. isOpen (slotOf (now (b .entry)) s))) (number (now (b .entry)) maxAt) ⌝ }
 {
     let max = get_table(b).max;
     let mut s: u32 = 0;
@@ -48,7 +48,7 @@ pub fn in_turn(t: Table, i: u32) -> SessionNumber
 // "beginning after the number last taken up and going round, the first session with an unanswered command"
 pub fn next_waiting(b: &[u8]) -> u32
     requires { ⌜ Limited (now b) ⌝ }
-    ensures { λ r. ⌜ r ≡ orNone (find (number (now (b .entry)) 0) (λ i. isWaiting (slotOf (now (b .entry)) (turn (abs (now (b .entry))) i)))) (number (now (b .entry)) 0) ⌝ }
+    ensures { λ r. ⌜ r ≡ orNone (find (number (now (b .entry)) maxAt) (λ i. isWaiting (slotOf (now (b .entry)) (turn (abs (now (b .entry))) i)))) (number (now (b .entry)) maxAt) ⌝ }
 {
     let t = get_table(b);
     let max = t.max;
@@ -74,7 +74,7 @@ fn is_ready(b: &[u8], s: SessionNumber, program: u32, ticket: Ticket) -> bool
 // "a closed session of that program and ticket"
 pub fn ready_session(b: &[u8], program: u32, ticket: Ticket) -> u32
     requires { ⌜ Limited (now b) × (1 ≤ program) ⌝ }
-    ensures { λ r. ⌜ r ≡ orNone (find (number (now (b .entry)) 0) (λ s. isReady program (ticket .0) (slotOf (now (b .entry)) s))) (number (now (b .entry)) 0) ⌝ }
+    ensures { λ r. ⌜ r ≡ orNone (find (number (now (b .entry)) maxAt) (λ s. isReady program (ticket .0) (slotOf (now (b .entry)) s))) (number (now (b .entry)) maxAt) ⌝ }
 {
     let max = get_table(b).max;
     let mut s: u32 = 0;

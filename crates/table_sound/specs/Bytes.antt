@@ -8,7 +8,7 @@ use Rattle.counts.specs.Limits.{sessions}
 use Rattle.sessions.specs.Find.{Found, none, at, first}
 use Rattle.sessions.specs.Sound.{sound}
 use Rattle.sessions.specs.Table.{Slot, openSlot, State}
-use Rattle.table_layout.specs.Layout.{tableBytes, number, lastAt, markAt, handAt, headAt, answeredAt, entryOf}
+use Rattle.table_layout.specs.Layout.{tableBytes, number, maxAt, lastAt, markAt, handAt, headAt, answeredAt, entryOf}
 
 -- 0: nothing in hand; else one more than the session's number
 unfoldable pub handOf : ℕ → Found
@@ -30,7 +30,7 @@ slotOf b s = cond (ltb s sessions && not (eqb (number b (headAt s)) 0)) (heldSlo
 -- the table without bytes
 abbrev pub abs : List ℕ → State
 abs b =
-    record { max = number b 0; last = number b lastAt; mark = number b markAt; hand = handOf (number b handAt); slot = slotOf b }
+    record { max = number b maxAt; last = number b lastAt; mark = number b markAt; hand = handOf (number b handAt); slot = slotOf b }
 
 -- "A table is sound when: it has a table's size", and what it holds is sound
 unfoldable pub soundBytes : List ℕ → Bool

@@ -1,0 +1,144 @@
+-- Answering: the ways through its tests, and what it leaves. Assumes nothing.
+use Prim.Native.Nat.{ℕ, _+_, _-_, _≤_, _<_}
+use mathlib.Core.Path.{_≡_, refl, _∙_, ap, sym, subst}
+use mathlib.Core.Bool.{Bool, true, false, cond, _&&_, false≢true}
+use mathlib.Core.List.{List}
+use native.Mathlib.Omega.{arith}
+use borrow.Author.Tests.{leb-true}
+use lib.Dec.{eqb, leb}
+use Rattle.counts.specs.Limits.{commands, sessions, classMost, codeMost}
+use Rattle.counts.specs.Refusals.{notReal, notARecord, notTheOne, unsound, refusal}
+use Rattle.counts.specs.Result.{refused, done}
+use Rattle.counts.specs.declared.Refusal.{Refusal}
+use Rattle.laws.proofs.Choose.{and-left}
+use Rattle.sessions.proofs.Laws.{refused≢done}
+use Rattle.sessions.specs.Find.{Found, none, at}
+use Rattle.sessions.specs.Records.{isDated, isOutcome}
+use Rattle.sessions.specs.Table.{State, names, lowest, answerHand, answer}
+use Rattle.sessions.specs.declared.Answer.{Answer}
+use Rattle.sessions.specs.declared.Outcome.{Outcome}
+use Rattle.sessions.specs.declared.Outcome.the-variants.{Processed, Error}
+use Rattle.table_layout.specs.Layout.{number, handAt, kindOf, headOf}
+use Rattle.table_layout.specs.declared.Head.{Head}
+use Rattle.table_search.proofs.Sounds.{Waits, waits, hand-waits}
+use Rattle.table_sound.proofs.Slots.{answers-held}
+use Rattle.table_sound.specs.Bytes.{handOf, slotOf, abs, soundBytes}
+use Rattle.session_table.specs.Calls.{only, verdict, namesHand, answering, answeredAs, answeredBytes}
+use Rattle.session_table.specs.Paper.{paperAnswered}
+use Rattle.session_table.specs.declared.Answered.the-variants.{Refused as NotAnswered}
+use Rattle.session_table.proofs.Hands.{hand-empty, hand-full}
+use Rattle.session_table.proofs.Verdicts.{passed, passed-both, is-done, is-refused, keeps-bytes}
+
+-- an outcome in range is stored in a number
+pub kind-fits : (o : Outcome) → isOutcome o ≡ true → kindOf o ≤ 4294967295
+unfolding kindOf isOutcome
+kind-fits Processed e = omega arith
+kind-fits (Error class code) e = omega (arith, leb-true class classMost (and-left (leb class classMost) (leb code codeMost) e))
+
+-- whether the command in hand is named, on the bytes
+module _ (b : List ℕ) (h : ℕ) (q : h ≡ number b handAt) (sound : soundBytes b ≡ true) where
+  pub names-none : (t c : ℕ) → h ≡ 0 → false ≡ namesHand (abs b) t c (handOf (number b handAt))
+  names-none t c e = rw (hand-empty b h q e)
+
+  pub in-hand : (h ≡ 0 → ⊥) → Waits b sound (h - 1)
+  in-hand n = waits b sound (h - 1) (hand-waits b sound (h - 1) (hand-full b h q n))
+
+  pub names-is : (n : h ≡ 0 → ⊥) (t c : ℕ) (x : Head) → x ≡ headOf b (h - 1)
+      → (eqb (x .ticket .0) t && eqb (x .answered + 1) c) ≡ namesHand (abs b) t c (handOf (number b handAt))
+  unfolding names headOf
+  names-is n t c x p = rw (hand-full b h q n, in-hand n .stands-there .held, answers-held b (h - 1), p)
+
+-- the four ways, whatever is in hand
+module _ (σ : State) (t c : ℕ) (a : Answer) where
+  way-10 : (f : Found) → namesHand σ t c f ≡ false → answerHand σ t c a f .0 ≡ refused notTheOne 0
+  unfolding answerHand
+  way-10 none e = refl
+  way-10 (at s) e = rw e
+
+  way-5 : (f : Found) → namesHand σ t c f ≡ true → isDated a ≡ false → answerHand σ t c a f .0 ≡ refused notReal 0
+  unfolding answerHand
+  way-5 none e d = absurd (false≢true e)
+  way-5 (at s) e d = rw (e, d)
+
+  way-7 : (f : Found) → namesHand σ t c f ≡ true → isDated a ≡ true → isOutcome (a .outcome) ≡ false → answerHand σ t c a f .0 ≡ refused notARecord 0
+  unfolding answerHand
+  way-7 none e d o = absurd (false≢true e)
+  way-7 (at s) e d o = rw (e, d, o)
+
+  way-0 : (f : Found) → namesHand σ t c f ≡ true → isDated a ≡ true → isOutcome (a .outcome) ≡ true → answerHand σ t c a f .0 ≡ done tt
+  unfolding answerHand
+  way-0 none e d o = absurd (false≢true e)
+  way-0 (at s) e d o = rw (e, d, o)
+
+module _ (b : List ℕ) (t c : ℕ) (a : Answer) where
+  pub answer-13 : soundBytes b ≡ false → verdict unsound ≡ only (answering b t c a)
+  unfolding answering
+  answer-13 e = rw e
+
+  module _ (sound : soundBytes b ≡ true) where
+    abbrev named : Bool
+    named = namesHand (abs b) t c (handOf (number b handAt))
+
+    pub answer-10 : named ≡ false → verdict notTheOne ≡ only (answering b t c a)
+    unfolding answering answer
+    answer-10 e = rw (sound, way-10 (abs b) t c a _ e)
+
+    pub answer-5 : named ≡ true → isDated a ≡ false → verdict notReal ≡ only (answering b t c a)
+    unfolding answering answer
+    answer-5 e d = rw (sound, way-5 (abs b) t c a _ e d)
+
+    pub answer-7 : named ≡ true → isDated a ≡ true → isOutcome (a .outcome) ≡ false → verdict notARecord ≡ only (answering b t c a)
+    unfolding answering answer
+    answer-7 e d o = rw (sound, way-7 (abs b) t c a _ e d o)
+
+    pub answer-0 : named ≡ true → isDated a ≡ true → isOutcome (a .outcome) ≡ true → verdict 0 ≡ only (answering b t c a)
+    unfolding answering answer
+    answer-0 e d o = rw (sound, way-0 (abs b) t c a _ e d o)
+
+  -- the two halves together: no refusal, or the one that was found and no byte changed
+  module _ (no : ℕ) (said : verdict no ≡ only (answering b t c a)) where
+    pub answer-passes : no ≡ 0 → only (answering b t c a) ≡ done tt
+    answer-passes = is-done (answering b t c a) no said
+
+    pub answer-refuses : (f : Refusal) → f ≡ refusal no 0 → (no ≡ 0 → ⊥) → (paperAnswered (NotAnswered f) ≡ answering b t c a) × (b ≡ answeredBytes b t c a)
+    unfolding paperAnswered answeredBytes
+    answer-refuses f q d =
+        (ap (λ x. paperAnswered (NotAnswered x)) q ∙ sym (is-refused (answering b t c a) no said d), keeps-bytes (answering b t c a) no said b _ d)
+
+  -- what is known where there is no refusal
+  pub record Answerable : Type 0 where
+    pub sound : soundBytes b ≡ true
+    pub number-held : ℕ
+    pub hand : handOf (number b handAt) ≡ at number-held
+    pub named : names (slotOf b number-held) t c ≡ true
+    pub dated : isDated a ≡ true
+    pub in-range : isOutcome (a .outcome) ≡ true
+
+  pub answerable : only (answering b t c a) ≡ done tt → Answerable
+  unfolding answering answer answerHand
+  answerable ok =
+      let q = passed (soundBytes b) _ unsound 0 ok in
+      go (handOf (number b handAt)) refl (q .1) (q .0)
+    where
+      go : (f : Found) → handOf (number b handAt) ≡ f → only (answerHand (abs b) t c a f .0) ≡ done tt → soundBytes b ≡ true → Answerable
+      go none e d x = absurd (refused≢done d)
+      go (at s) e d x =
+          let n = passed-both (names (slotOf b s) t c) _ notTheOne 0 (abs b) d in
+          let k = passed-both (isDated a) _ notReal 0 (abs b) (n .1) in
+          let o = passed-both (isOutcome (a .outcome)) _ notARecord 0 (abs b) (k .1) in
+          record { sound = x; number-held = s; hand = e; named = n .0; dated = k .0; in-range = o .0 }
+
+  module _ (w : Answerable) (h : ℕ) (q : h ≡ number b handAt) where
+    pub answer-hand : h ≡ 0 → ⊥
+    answer-hand e =
+        let p = sym (hand-empty b h q e) ∙ w .hand in
+        let z : _≡_ {A = ℕ} 0 1 = cc in
+        omega arith
+
+    pub answer-done : done tt ≡ answering b t c a
+    unfolding answering answer
+    answer-done = rw (w .sound, way-0 (abs b) t c a _ (ap (namesHand (abs b) t c) (w .hand) ∙ w .named) (w .dated) (w .in-range))
+
+    pub answer-leaves : answeredAs b a ≡ answeredBytes b t c a
+    unfolding answeredBytes
+    answer-leaves = rw (← answer-done)

@@ -1,0 +1,6 @@
+pub mod Verdicts
+pub mod Making
+pub mod Placing
+pub mod Hands
+pub mod Turns
+pub mod Answering

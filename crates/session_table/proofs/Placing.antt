@@ -1,0 +1,104 @@
+-- Placing: the ways through its tests, and what it leaves. Assumes nothing.
+use Prim.Native.Nat.{ℕ, _+_, _≤_, _<_}
+use mathlib.Core.Path.{_≡_, refl, _∙_, ap, sym}
+use mathlib.Core.Bool.{Bool, true, false, cond, _&&_}
+use mathlib.Core.List.{List}
+use native.Mathlib.Omega.{arith}
+use lib.Dec.{ltb}
+use borrow.Author.Tests.{lt-ltb, le-ltb, ltb-true}
+use Rattle.counts.specs.Limits.{commands, programs, sessions, ticketMost}
+use Rattle.counts.specs.Refusals.{allTaken, outOfRange, noTicketLeft, unsound, refusal}
+use Rattle.counts.specs.Result.{done}
+use Rattle.sessions.proofs.Laws.{Search, hit, search-find, refused≢done}
+use Rattle.sessions.proofs.Loops.{found-at, found-none}
+use Rattle.sessions.specs.Find.{Found, none, at, orNone, find}
+use Rattle.sessions.specs.Table.{within, isOpen, place, placeIn}
+use Rattle.table_layout.specs.Layout.{number, maxAt, lastAt, putNumber, putHead}
+use Rattle.table_sound.specs.Bytes.{slotOf, abs, soundBytes}
+use Rattle.session_table.specs.Calls.{only, verdict, newHead, placing, placedAt, placedBytes}
+use Rattle.session_table.proofs.Verdicts.{passed, passed-both, is-done, is-refused, keeps-bytes}
+use Rattle.counts.specs.declared.Refusal.{Refusal}
+use Rattle.session_table.specs.Paper.{paperPlaced}
+use Rattle.session_table.specs.declared.Placed.the-variants.{Refused as NotPlaced}
+
+-- the lowest open number, as a search finds it
+abbrev pub openIn : List ℕ → Found
+openIn b = find (number b maxAt) (λ s. isOpen (slotOf b s))
+
+module _ (b : List ℕ) (p n : ℕ) where
+  abbrev ranges : Bool
+  ranges = within 1 p programs && within 1 n commands
+
+  pub place-13 : soundBytes b ≡ false → verdict unsound ≡ only (placing b p n)
+  unfolding placing
+  place-13 e = rw e
+
+  pub place-11 : soundBytes b ≡ true → ranges ≡ false → verdict outOfRange ≡ only (placing b p n)
+  unfolding placing place
+  place-11 e q = rw (e, q)
+
+  module _ (sound : soundBytes b ≡ true) (range : ranges ≡ true) (s : ℕ) (found : s ≡ orNone (openIn b) (number b maxAt)) where
+    pub place-9 : number b maxAt ≤ s → verdict allTaken ≡ only (placing b p n)
+    unfolding placing place placeIn
+    place-9 l = rw (sound, range, found-none (λ i. isOpen (slotOf b i)) (number b maxAt) found l)
+
+    pub place-12 : s < number b maxAt → ticketMost ≤ number b lastAt → verdict noTicketLeft ≡ only (placing b p n)
+    unfolding placing place placeIn
+    place-12 l k = rw (sound, range, found-at (openIn b) found l, le-ltb (number b lastAt) ticketMost k)
+
+    place-is : s < number b maxAt → number b lastAt < ticketMost → done (s, number b lastAt + 1) ≡ placing b p n
+    unfolding placing place placeIn
+    place-is l k = rw (sound, range, found-at (openIn b) found l, lt-ltb (number b lastAt) ticketMost k)
+
+    pub place-0 : s < number b maxAt → number b lastAt < ticketMost → verdict 0 ≡ only (placing b p n)
+    place-0 l k = rw (← (place-is l k))
+
+  -- the two halves together: no refusal, or the one that was found and no byte changed
+  module _ (no : ℕ) (said : verdict no ≡ only (placing b p n)) where
+    pub place-passes : no ≡ 0 → only (placing b p n) ≡ done tt
+    place-passes = is-done (placing b p n) no said
+
+    pub place-refuses : (f : Refusal) → f ≡ refusal no 0 → (no ≡ 0 → ⊥) → (paperPlaced (NotPlaced f) ≡ placing b p n) × (b ≡ placedBytes b p n)
+    unfolding paperPlaced placedBytes
+    place-refuses f q d =
+        (ap (λ x. paperPlaced (NotPlaced x)) q ∙ sym (is-refused (placing b p n) no said d), keeps-bytes (placing b p n) no said b _ d)
+
+  -- what is known where there is no refusal
+  pub record Placeable : Type 0 where
+    pub sound : soundBytes b ≡ true
+    pub range : ranges ≡ true
+    pub number-free : ℕ
+    pub found : openIn b ≡ at number-free
+    pub below : number-free < number b maxAt
+    pub room : number b lastAt < ticketMost
+
+  pub placeable : only (placing b p n) ≡ done tt → Placeable
+  unfolding placing place placeIn
+  placeable ok =
+      let q = passed (soundBytes b) _ unsound 0 ok in
+      let r = passed-both ranges (placeIn (abs b) p n (openIn b)) outOfRange 0 (abs b) (q .1) in
+      go (openIn b) refl (search-find _ _) (r .1) (q .0) (r .0)
+    where
+      go : (f : Found) → openIn b ≡ f → Search (number b maxAt) (λ s. isOpen (slotOf b s)) f → only (placeIn (abs b) p n f .0) ≡ done tt
+          → soundBytes b ≡ true → ranges ≡ true → Placeable
+      go none e w d x y = absurd (refused≢done d)
+      go (at s) e (hit l t m) d x y =
+          record {
+            sound = x;
+            range = y;
+            number-free = s;
+            found = e;
+            below = l;
+            room = ltb-true (number b lastAt) ticketMost (passed-both (ltb (number b lastAt) ticketMost) _ noTicketLeft 0 (abs b) d .0);
+          }
+
+  module _ (w : Placeable) (s : ℕ) (found : s ≡ orNone (openIn b) (number b maxAt)) where
+    pub place-below : s < number b maxAt
+    place-below = omega (arith, found ∙ ap (λ f. orNone f (number b maxAt)) (w .found), w .below)
+
+    pub place-done : done (s, number b lastAt + 1) ≡ placing b p n
+    place-done = place-is (w .sound) (w .range) s found place-below (w .room)
+
+    pub place-leaves : placedAt b p n (s, number b lastAt + 1) ≡ placedBytes b p n
+    unfolding placedBytes
+    place-leaves = rw (← place-done)

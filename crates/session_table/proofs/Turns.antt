@@ -1,0 +1,113 @@
+-- Taking up: the ways through its tests, and what it leaves. Assumes nothing.
+use Prim.Native.Nat.{ℕ, _+_, _-_, _≤_, _<_}
+use mathlib.Core.Path.{_≡_, refl, _∙_, ap, sym, subst}
+use mathlib.Core.Bool.{true, false}
+use mathlib.Core.List.{List}
+use native.Mathlib.Omega.{arith}
+use borrow.Author.Tests.{eq-eqb, ne-eqb}
+use Rattle.counts.specs.Refusals.{nothingUnanswered, unsound, refusal}
+use Rattle.counts.specs.Result.{done}
+use Rattle.counts.specs.declared.Refusal.{Refusal}
+use Rattle.sessions.proofs.Laws.{refused≢done}
+use Rattle.sessions.proofs.Loops.{found-at, found-none, find-at}
+use Rattle.sessions.specs.Find.{Found, none, at, orNone, find}
+use Rattle.sessions.specs.Table.{isWaiting, turn, given, takeNext, takeHand, takeUp}
+use Rattle.table_layout.specs.Layout.{number, maxAt, markAt, handAt, putNumber, tableOf, headOf}
+use Rattle.table_layout.specs.declared.Head.{Head}
+use Rattle.table_layout.specs.declared.Table.{Table}
+use Rattle.table_search.proofs.Sounds.{waits, hand-waits, sound-limited}
+use Rattle.table_search.specs.Limited.{turnOf}
+use Rattle.table_sound.proofs.Slots.{answers-held}
+use Rattle.table_sound.specs.Bytes.{slotOf, abs, soundBytes}
+use Rattle.session_table.specs.Calls.{only, verdict, takingUp, takenBytes}
+use Rattle.session_table.specs.Paper.{paperTakenUp}
+use Rattle.session_table.specs.declared.TakenUp.the-variants.{Refused as NotTakenUp}
+use Rattle.session_table.proofs.Hands.{hand-empty, hand-full}
+use Rattle.session_table.proofs.Verdicts.{passed, is-done, is-refused, keeps-bytes}
+
+-- the next in turn, as a search finds it
+abbrev pub nextIn : List ℕ → Found
+nextIn b = find (number b maxAt) (λ i. isWaiting (slotOf b (turn (abs b) i)))
+
+-- what a session gives
+pub given-is : (b : List ℕ) (s : ℕ) (h : Head) → soundBytes b ≡ true → isWaiting (slotOf b s) ≡ true → h ≡ headOf b s
+    → done (s, h .ticket .0, h .answered + 1) ≡ given (abs b) s
+unfolding headOf
+given-is b s h e l q = rw (waits b e s l .stands-there .held, answers-held b s, q)
+
+module _ (b : List ℕ) where
+  pub take-up-13 : soundBytes b ≡ false → verdict unsound ≡ only (takingUp b)
+  unfolding takingUp
+  take-up-13 e = rw e
+
+  module _ (sound : soundBytes b ≡ true) where
+    take-again : (number b handAt ≡ 0 → ⊥) → given (abs b) (number b handAt - 1) ≡ takingUp b
+    unfolding takingUp takeUp takeHand
+    take-again n = rw (sound, hand-full b _ refl n)
+
+    pub take-up-again : (number b handAt ≡ 0 → ⊥) → verdict 0 ≡ only (takingUp b)
+    take-up-again n = rw (← (take-again n))
+
+    module _ (i : ℕ) (found : i ≡ orNone (nextIn b) (number b maxAt)) (e : number b handAt ≡ 0) where
+      pub take-up-14 : number b maxAt ≤ i → verdict nothingUnanswered ≡ only (takingUp b)
+      unfolding takingUp takeUp takeHand takeNext
+      take-up-14 l = rw (sound, hand-empty b _ refl e, found-none (λ k. isWaiting (slotOf b (turn (abs b) k))) (number b maxAt) found l)
+
+      take-next : i < number b maxAt → given (abs b) (turn (abs b) i) ≡ takingUp b
+      unfolding takingUp takeUp takeHand takeNext
+      take-next l = rw (sound, hand-empty b _ refl e, found-at (nextIn b) found l)
+
+      pub take-up-0 : i < number b maxAt → verdict 0 ≡ only (takingUp b)
+      take-up-0 l = rw (← (take-next l))
+
+  -- the two halves together: no refusal, or the one that was found and no byte changed
+  module _ (no : ℕ) (said : verdict no ≡ only (takingUp b)) where
+    pub take-up-passes : no ≡ 0 → only (takingUp b) ≡ done tt
+    take-up-passes = is-done (takingUp b) no said
+
+    pub take-up-refuses : (f : Refusal) → f ≡ refusal no 0 → (no ≡ 0 → ⊥) → (paperTakenUp (NotTakenUp f) ≡ takingUp b) × (b ≡ takenBytes b)
+    unfolding paperTakenUp takenBytes
+    take-up-refuses f q d =
+        (ap (λ x. paperTakenUp (NotTakenUp x)) q ∙ sym (is-refused (takingUp b) no said d), keeps-bytes (takingUp b) no said b _ d)
+
+  module _ (ok : only (takingUp b) ≡ done tt) where
+    pub take-up-sound : soundBytes b ≡ true
+    unfolding takingUp
+    take-up-sound = passed (soundBytes b) _ unsound 0 ok .0
+
+    -- given again
+    module _ (h : ℕ) (q : h ≡ number b handAt) (n : h ≡ 0 → ⊥) where
+      pub again-waits : isWaiting (slotOf b (h - 1)) ≡ true
+      again-waits = hand-waits b take-up-sound (h - 1) (hand-full b h q n)
+
+      pub again-done : given (abs b) (h - 1) ≡ takingUp b
+      again-done = ap (λ k. given (abs b) (k - 1)) q ∙ take-again take-up-sound (λ z. n (q ∙ z))
+
+      pub again-leaves : b ≡ takenBytes b
+      unfolding takenBytes
+      again-leaves = rw (← again-done, ne-eqb (number b handAt) 0 (λ z. n (q ∙ z)))
+
+    -- taken up next
+    module _ (e : number b handAt ≡ 0) (i : ℕ) (found : i ≡ orNone (nextIn b) (number b maxAt)) where
+      next-found : nextIn b ≡ at i
+      unfolding takingUp takeUp takeHand takeNext
+      next-found =
+          go (nextIn b) refl (subst (λ (f : Found). only (takeHand (abs b) f .0) ≡ done tt) (hand-empty b _ refl e) (passed (soundBytes b) _ unsound 0 ok .1))
+        where
+          go : (f : Found) → nextIn b ≡ f → only (takeNext (abs b) f .0) ≡ done tt → nextIn b ≡ at i
+          go none q d = absurd (refused≢done d)
+          go (at k) q d = q ∙ ap at (sym (found ∙ ap (λ f. orNone f (number b maxAt)) q))
+
+      pub next-below : i < number b maxAt
+      next-below = find-at (λ k. isWaiting (slotOf b (turn (abs b) k))) (number b maxAt) next-found .0
+
+      module _ (s : ℕ) (turned : s ≡ turn (abs b) i) where
+        pub next-waits : isWaiting (slotOf b s) ≡ true
+        next-waits = rw turned (find-at (λ k. isWaiting (slotOf b (turn (abs b) k))) (number b maxAt) next-found .1)
+
+        pub next-done : given (abs b) s ≡ takingUp b
+        next-done = rw turned (take-next take-up-sound i found e next-below)
+
+        pub next-leaves : putNumber (putNumber b markAt s) handAt (s + 1) ≡ takenBytes b
+        unfolding takenBytes
+        next-leaves = rw (← next-done, eq-eqb (number b handAt) 0 e)

@@ -1,0 +1,27 @@
+use Rattle.session_table.specs.Paper.{paperMade}
+use lib.ListN.{length, length-replicate}
+use mathlib.Core.Path.{_∙_, ap, sym}
+use Rattle.session_table.proofs.Making.{make-low, make-size, make-done, make-leaves}
+use borrow.Author.Needs.{needs}
+use Rattle.session_table.proofs.make_now.Statement.{statement}
+use Rattle.session_table.proofs.make_now.Tie as tie
+
+clear-requires : tie.Need-clear-requires
+clear-requires c κs = search needs
+
+fresh-requires : tie.Need-fresh-requires
+fresh-requires c κs = make-low _ _ (c .before .before .before .before .before .before .pre)
+
+put-table-requires : tie.Need-put-table-requires
+put-table-requires c κs = ap length (c .before .before .before .before .clear .ensures) ∙ length-replicate _ 0 ∙ make-size _ _ (c .before .before .before .before .before .before .before .pre)
+
+same-length : tie.Need-same-length
+same-length c = search needs
+
+returns : tie.Need-returns
+unfolding paperMade
+returns c = (make-done _ _ (c .before .before .before .before .before .before .before .before .before .before .pre), cc (make-leaves _ _ (c .before .before .before .before .before .before .before .before .before .before .pre)))
+
+pub make-now-spec : {M : Type 1} → statement M
+make-now-spec =
+    tie.close (tie.spec clear-requires fresh-requires put-table-requires same-length returns)

@@ -1,0 +1,283 @@
+// The session table: make, place, take up, answer, collect. Each call is a thin function over one that gives the number of the refusal, in
+// document 01's order and 0 for none, and one that does what the call does where there is none.
+use counts::ALL_TAKEN;
+use counts::COMMANDS;
+use counts::CommandNumber;
+use counts::NO_TICKET_LEFT;
+use counts::NOT_A_RECORD;
+use counts::NOT_REAL;
+use counts::NOT_THE_ONE;
+use counts::NOTHING_UNANSWERED;
+use counts::OUT_OF_RANGE;
+use counts::PROGRAMS;
+use counts::Refusal;
+use counts::SESSIONS;
+use counts::SessionNumber;
+use counts::TICKET_MOST;
+use counts::Ticket;
+use counts::UNSOUND;
+use sessions::Answer;
+use sessions::Outcome;
+use table_layout::Head;
+use table_layout::Table;
+use table_layout::clear;
+use table_layout::get_head;
+use table_layout::get_table;
+use table_layout::put_hand;
+use table_layout::put_head;
+use table_layout::put_last;
+use table_layout::put_mark;
+use table_layout::put_table;
+use table_search::in_turn;
+use table_search::lowest_open;
+use table_search::next_waiting;
+use table_slot::answer_slot;
+use table_sound::is_dated;
+use table_sound::is_outcome;
+use table_sound::is_sound;
+ghost use mathlib.Core.Path.{_≡_};
+ghost use mathlib.Core.Bool.{_&&_, true};
+ghost use Prim.Native.Nat.{_+_, _<_, _≤_};
+ghost use lib.ListN.{length};
+ghost use Rattle.counts.specs.Limits.{commands, programs, sessions};
+ghost use Rattle.counts.specs.Result.{done};
+ghost use Rattle.sessions.specs.Table.{within, isWaiting, given as givenBy};
+ghost use Rattle.table_layout.specs.Layout.{number, handAt};
+ghost use Rattle.table_sound.specs.Bytes.{handOf, slotOf, abs, soundBytes};
+ghost use Rattle.session_table.specs.Paper.{paperMade, paperPlaced, paperTakenUp, paperAnswered};
+ghost use Rattle.session_table.specs.Calls.{namesHand, verdict, only, making, madeBytes, placing, placedBytes, takingUp, takenBytes, answering, answeredBytes};
+
+pub enum Made {
+    Fresh,
+    Refused(Refusal),
+}
+
+pub enum Placed {
+    At(SessionNumber, Ticket),
+    Refused(Refusal),
+}
+
+pub enum TakenUp {
+    Given(SessionNumber, Ticket, CommandNumber),
+    Refused(Refusal),
+}
+
+pub enum Answered {
+    Accepted,
+    Refused(Refusal),
+}
+
+fn make_refusal(b: &[u8], max: u32) -> u32
+    ensures { λ r. ⌜ verdict r ≡ only (making (now (b .entry)) max) ⌝ }
+{
+    if (1 <= max) & (max <= SESSIONS) {
+        if b.len() == Table::SIZE { 0 } else { UNSOUND }
+    } else {
+        OUT_OF_RANGE
+    }
+}
+
+fn make_now(b: &mut [u8], max: u32) -> Made
+    requires { ⌜ only (making (now b) max) ≡ done tt ⌝ }
+    ensures { λ r. ⌜ (paperMade r ≡ making (now (b .entry)) max) × (now (b .exit) ≡ madeBytes (now (b .entry)) max) ⌝ }
+{
+    clear(b);
+    put_table(b, Table::fresh(max));
+    Made::Fresh
+}
+
+// Makes a fresh table of lent memory, whatever stood there.
+pub fn make(b: &mut [u8], max: u32) -> Made
+    ensures { λ r. ⌜ (paperMade r ≡ making (now (b .entry)) max) × (now (b .exit) ≡ madeBytes (now (b .entry)) max) ⌝ }
+{
+    let no = make_refusal(b, max);
+    if no == 0 {
+        return make_now(b, max);
+    }
+    Made::Refused(Refusal::plain(no))
+}
+
+fn is_placeable(program: u32, count: u32) -> bool
+    ensures { λ r. ⌜ r ≡ (within 1 program programs && within 1 count commands) ⌝ }
+{
+    (1 <= program) & (program <= PROGRAMS) & ((1 <= count) & (count <= COMMANDS))
+}
+
+fn place_refusal(b: &[u8], program: u32, count: u32) -> u32
+    ensures { λ r. ⌜ verdict r ≡ only (placing (now (b .entry)) program count) ⌝ }
+{
+    if is_sound(b) {
+        if is_placeable(program, count) {
+            let t = get_table(b);
+            if lowest_open(b) < t.max {
+                if t.last.0 < TICKET_MOST {
+                    0
+                } else {
+                    NO_TICKET_LEFT
+                }
+            } else {
+                ALL_TAKEN
+            }
+        } else {
+            OUT_OF_RANGE
+        }
+    } else {
+        UNSOUND
+    }
+}
+
+fn place_now(b: &mut [u8], program: u32, count: u32) -> Placed
+    requires { ⌜ only (placing (now b) program count) ≡ done tt ⌝ }
+    ensures { λ r. ⌜ (paperPlaced r ≡ placing (now (b .entry)) program count) × (now (b .exit) ≡ placedBytes (now (b .entry)) program count) ⌝ }
+{
+    let s = lowest_open(b);
+    let last = get_table(b).last;
+    let k = last.0 + 1;
+    let h = Head {
+        program,
+        count,
+        answered: 0,
+        ticket: Ticket(k),
+    };
+    put_head(b, SessionNumber(s), h);
+    put_last(b, Ticket(k));
+    Placed::At(SessionNumber(s), Ticket(k))
+}
+
+// Takes the lowest open number for a program's commands.
+pub fn place(b: &mut [u8], program: u32, count: u32) -> Placed
+    ensures { λ r. ⌜ (paperPlaced r ≡ placing (now (b .entry)) program count) × (now (b .exit) ≡ placedBytes (now (b .entry)) program count) ⌝ }
+{
+    let no = place_refusal(b, program, count);
+    if no == 0 {
+        return place_now(b, program, count);
+    }
+    Placed::Refused(Refusal::plain(no))
+}
+
+fn take_up_refusal(b: &[u8]) -> u32
+    ensures { λ r. ⌜ verdict r ≡ only (takingUp (now (b .entry))) ⌝ }
+{
+    if is_sound(b) {
+        let t = get_table(b);
+        if t.hand == 0 {
+            if next_waiting(b) < t.max {
+                0
+            } else {
+                NOTHING_UNANSWERED
+            }
+        } else {
+            0
+        }
+    } else {
+        UNSOUND
+    }
+}
+
+// The session's lowest unanswered command.
+fn given(b: &[u8], s: SessionNumber) -> TakenUp
+    requires { ⌜ (soundBytes (now b) ≡ true) × (isWaiting (slotOf (now b) (s .0)) ≡ true) ⌝ }
+    ensures { λ r. ⌜ paperTakenUp r ≡ givenBy (abs (now (b .entry))) (s .0) ⌝ }
+{
+    let h = get_head(b, s);
+    let t = h.ticket;
+    TakenUp::Given(s, t, CommandNumber(h.answered + 1))
+}
+
+fn take_up_next(b: &mut [u8]) -> TakenUp
+    requires { ⌜ (only (takingUp (now b)) ≡ done tt) × (number (now b) handAt ≡ 0) ⌝ }
+    ensures { λ r. ⌜ (paperTakenUp r ≡ takingUp (now (b .entry))) × (now (b .exit) ≡ takenBytes (now (b .entry))) ⌝ }
+{
+    let s = in_turn(get_table(b), next_waiting(b));
+    let r = given(b, s);
+    put_mark(b, s);
+    put_hand(b, s.0 + 1);
+    r
+}
+
+fn take_up_now(b: &mut [u8]) -> TakenUp
+    requires { ⌜ only (takingUp (now b)) ≡ done tt ⌝ }
+    ensures { λ r. ⌜ (paperTakenUp r ≡ takingUp (now (b .entry))) × (now (b .exit) ≡ takenBytes (now (b .entry))) ⌝ }
+{
+    let hand = get_table(b).hand;
+    if hand == 0 {
+        return take_up_next(b);
+    }
+    given(b, SessionNumber(hand - 1))
+}
+
+// Gives the command in hand again, or takes up the next.
+pub fn take_up(b: &mut [u8]) -> TakenUp
+    ensures { λ r. ⌜ (paperTakenUp r ≡ takingUp (now (b .entry))) × (now (b .exit) ≡ takenBytes (now (b .entry))) ⌝ }
+{
+    let no = take_up_refusal(b);
+    if no == 0 {
+        return take_up_now(b);
+    }
+    TakenUp::Refused(Refusal::plain(no))
+}
+
+// Whether ticket and command are those of the command in hand.
+fn names_hand(b: &[u8], ticket: Ticket, command: CommandNumber) -> bool
+    requires { ⌜ soundBytes (now b) ≡ true ⌝ }
+    ensures { λ r. ⌜ r ≡ namesHand (abs (now (b .entry))) (ticket .0) (command .0) (handOf (number (now (b .entry)) handAt)) ⌝ }
+{
+    let hand = get_table(b).hand;
+    if hand == 0 {
+        return false;
+    }
+    let h = get_head(b, SessionNumber(hand - 1));
+    (h.ticket.0 == ticket.0) & (h.answered + 1 == command.0)
+}
+
+fn answer_refusal(b: &[u8], ticket: Ticket, command: CommandNumber, a: Answer) -> u32
+    ensures { λ r. ⌜ verdict r ≡ only (answering (now (b .entry)) (ticket .0) (command .0) a) ⌝ }
+{
+    if is_sound(b) {
+        if names_hand(b, ticket, command) {
+            if is_dated(a) {
+                let o = a.outcome;
+                if is_outcome(o) { 0 } else { NOT_A_RECORD }
+            } else {
+                NOT_REAL
+            }
+        } else {
+            NOT_THE_ONE
+        }
+    } else {
+        UNSOUND
+    }
+}
+
+fn answer_now(b: &mut [u8], ticket: Ticket, command: CommandNumber, a: Answer) -> Answered
+    requires { ⌜ only (answering (now b) (ticket .0) (command .0) a) ≡ done tt ⌝ }
+    ensures { λ r. ⌜ (paperAnswered r ≡ answering (now (b .entry)) (ticket .0) (command .0) a) × (now (b .exit) ≡ answeredBytes (now (b .entry)) (ticket .0) (command .0) a) ⌝ }
+{
+    let hand = get_table(b).hand;
+    answer_slot(b, SessionNumber(hand - 1), a);
+    put_hand(b, 0);
+    Answered::Accepted
+}
+
+// Accepts the answer to the command in hand.
+pub fn answer(
+    b: &mut [u8],
+    ticket: Ticket,
+    command: CommandNumber,
+    outcome: Outcome,
+    date: u32,
+    time: u32,
+) -> Answered
+    ensures { λ r. ⌜ (paperAnswered r ≡ answering (now (b .entry)) (ticket .0) (command .0) (record { outcome = outcome; date = date; time = time })) × (now (b .exit) ≡ answeredBytes (now (b .entry)) (ticket .0) (command .0) (record { outcome = outcome; date = date; time = time })) ⌝ }
+{
+    let a = Answer {
+        outcome,
+        date,
+        time,
+    };
+    let no = answer_refusal(b, ticket, command, a);
+    if no == 0 {
+        return answer_now(b, ticket, command, a);
+    }
+    Answered::Refused(Refusal::plain(no))
+}
