@@ -4,3 +4,4 @@ pub mod Lines
 pub mod Ends
 pub mod Shifted
 pub mod Spelled
+pub mod Shows

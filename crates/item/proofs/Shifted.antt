@@ -85,23 +85,23 @@ module _ (x : ℕ) (v : List ℕ) where
   unfolding nextToken
   next-up i = simp (blank-up, token-up)
 
-  part-up : (i w : ℕ) → part (x ∷ v) (suc i) w ≡ part v i w
+  pub part-up : (i w : ℕ) → part (x ∷ v) (suc i) w ≡ part v i w
   unfolding part
   part-up i w = refl
 
-  word-class-up : (a b : ℕ) → wordClass (x ∷ v) (suc a) (suc b) ≡ wordClass v a b
+  pub word-class-up : (a b : ℕ) → wordClass (x ∷ v) (suc a) (suc b) ≡ wordClass v a b
   unfolding wordClass clauseClass abortClass
   word-class-up a b = simp (suc-sub-suc, has-up)
 
-  number-class-up : (a b : ℕ) → numberClass (x ∷ v) (suc a) (suc b) ≡ numberClass v a b
+  pub number-class-up : (a b : ℕ) → numberClass (x ∷ v) (suc a) (suc b) ≡ numberClass v a b
   unfolding numberClass
   number-class-up a b = simp (suc-sub-suc, part-up)
 
-  date-up : (a b : ℕ) → dateNumber (x ∷ v) (suc a) (suc b) ≡ dateNumber v a b
+  pub date-up : (a b : ℕ) → dateNumber (x ∷ v) (suc a) (suc b) ≡ dateNumber v a b
   unfolding dateNumber
   date-up a b = simp (suc-sub-suc, part-up)
 
-  time-up : (a : ℕ) → timeNumber (x ∷ v) (suc a) ≡ timeNumber v a
+  pub time-up : (a : ℕ) → timeNumber (x ∷ v) (suc a) ≡ timeNumber v a
   unfolding timeNumber
   time-up a = simp (suc-add, part-up)
 

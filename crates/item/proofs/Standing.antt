@@ -11,7 +11,7 @@ use Rattle.token.proofs.Ahead.{startOf, endOf, Lies, lies}
 use Rattle.item.specs.Items.{numbered, itemAt, Seen, Stood}
 use Rattle.item.specs.declared.Item.{Item}
 
-next-of : (base : ℕ) (s : List ℕ) (t : Token) → numbered base s t .next ≡ base + endOf t
+pub next-of : (base : ℕ) (s : List ℕ) (t : Token) → numbered base s t .next ≡ base + endOf t
 unfolding numbered
 next-of base s (End p) = refl
 next-of base s (Fault w p) = refl

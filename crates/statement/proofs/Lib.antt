@@ -1,1 +1,6 @@
 pub mod Values
+pub mod Plain
+pub mod Bridge
+pub mod Forget
+pub mod Words
+pub mod From

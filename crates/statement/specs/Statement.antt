@@ -158,10 +158,13 @@ module _ (base : ℕ) (s : List ℕ) where
   unfoldable pub abortKind : ℕ → StatementRead
   abortKind at = oneOf at (or REPORT (λ t. abortName Report (t .next)) (or EVENT (λ t. abortName Event (t .next)) []))
 
+  -- the kinds of statement
+  abbrev pub kinds : List Branch
+  kinds =
+      or JOB (λ t. jobName (t .next))
+      (or UPLOAD (λ t. moveFile false (t .next))
+      (or DOWNLOAD (λ t. moveFile true (t .next)) (or GETINFO (λ t. infoFile (t .next)) (or ABORT (λ t. abortKind (t .next)) []))))
+
   -- a statement of any kind, from its first token on
   unfoldable pub statementOf : Item → StatementRead
-  statementOf =
-      onItem
-      (or JOB (λ t. jobName (t .next))
-      (or UPLOAD (λ t. moveFile false (t .next))
-      (or DOWNLOAD (λ t. moveFile true (t .next)) (or GETINFO (λ t. infoFile (t .next)) (or ABORT (λ t. abortKind (t .next)) [])))))
+  statementOf t = onItem kinds t

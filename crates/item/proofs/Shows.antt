@@ -1,0 +1,86 @@
+-- The item that code has shows what stands next; and the bytes of a file from a place on show it as the file does. Assumes nothing.
+use Prim.Native.Nat.{ℕ, zero, suc, _+_, _-_, _≤_}
+use mathlib.Core.Path.{_≡_, refl, sym, _∙_, ap, ap₂}
+use mathlib.Core.List.{List, [], _∷_}
+use native.Mathlib.Omega.{arith}
+use native.Mathlib.Nat.{add-suc, suc-add, suc-sub-suc}
+use lib.ListN.{length, drop}
+use Rattle.field.specs.Part.{part}
+use Rattle.token.specs.Token.{nextToken}
+use Rattle.token.specs.declared.Token.{Token}
+use Rattle.token.specs.declared.Token.the-variants.{End, Fault, Word, TimeGe, Number, Time, Text, Sign, Semicolon}
+use Rattle.token.proofs.Ahead.{Lies, startOf, endOf, lies}
+use Rattle.grammar.specs.Grammar.{classNo}
+use Rattle.grammar.specs.Productions.{Placed}
+use Rattle.item.specs.Tokens.{Next, itemOf, nextItem}
+use Rattle.item.specs.Tokens.Next.{item, ended, none}
+use Rattle.item.specs.Items.{endNo, noneNo, numbered, itemAt}
+use Rattle.item.specs.declared.Item.{Item}
+use Rattle.item.proofs.Standing.{next-of}
+use Rattle.item.proofs.Shifted.{up, next-up, part-up, word-class-up, number-class-up, date-up, time-up}
+
+-- an item's numbers are those of what stands next
+pub data Shows (t : Item) : Next → Type 0 where
+  a-token : {u : Placed} {b : ℕ} → t .class ≡ classNo (u .class) → t .place ≡ u .place → t .next ≡ b → Shows t (item u b)
+  the-end : {p : ℕ} → t .class ≡ endNo → t .place ≡ p → Shows t (ended p)
+  no-token : {p : ℕ} → t .class ≡ noneNo → t .place ≡ p → Shows t (none p)
+
+none-before : (n : ℕ) → 0 + n ≡ n
+none-before n = omega arith
+
+by-token : (s : List ℕ) (k : Token) → Shows (numbered 0 s k) (itemOf s k)
+unfolding numbered itemOf
+by-token s (End p) = the-end refl (none-before p)
+by-token s (Fault w p) = no-token refl (none-before p)
+by-token s (Word a b) = a-token refl (none-before a) (none-before b)
+by-token s (TimeGe a b) = a-token refl (none-before a) (none-before b)
+by-token s (Number a b) = a-token refl (none-before a) (none-before b)
+by-token s (Time a b) = a-token refl (none-before a) (none-before b)
+by-token s (Text a b) = a-token refl (none-before a) (none-before b)
+by-token s (Sign o a b) = a-token refl (none-before a) (none-before b)
+by-token s (Semicolon a b) = a-token refl (none-before a) (none-before b)
+
+pub shows : (s : List ℕ) (i : ℕ) → Shows (itemAt 0 s i) (nextItem s i)
+unfolding itemAt nextItem
+shows s i =
+    let e : i - 0 ≡ i = omega arith in
+    rw e (by-token s (nextToken s i))
+
+-- an item does not end before the place it was looked for from
+pub onward : (base : ℕ) (s : List ℕ) (at : ℕ) → base ≤ at → at ≤ itemAt base s at .next
+unfolding itemAt
+onward base s at h =
+    let l : Lies s (at - base) (startOf (nextToken s (at - base))) (endOf (nextToken s (at - base))) = lies s (at - base) (nextToken s (at - base)) (nextToken s (at - base)) refl refl in
+    omega (arith, next-of base s (nextToken s (at - base)), l .from, l .ordered)
+
+-- one byte fewer in front
+module _ (x : ℕ) (v : List ℕ) (base : ℕ) where
+  fewer : (k : Token) → numbered base (x ∷ v) (up k) ≡ numbered (suc base) v k
+  unfolding numbered
+  fewer (End p) = simp (add-suc, suc-add, suc-sub-suc)
+  fewer (Fault w p) = simp (add-suc, suc-add, suc-sub-suc)
+  fewer (Word a b) = simp (add-suc, suc-add, suc-sub-suc, word-class-up)
+  fewer (TimeGe a b) = simp (add-suc, suc-add, suc-sub-suc)
+  fewer (Number a b) = simp (add-suc, suc-add, suc-sub-suc, number-class-up, date-up, part-up)
+  fewer (Time a b) = simp (add-suc, suc-add, suc-sub-suc, time-up)
+  fewer (Text a b) = simp (add-suc, suc-add, suc-sub-suc)
+  fewer (Sign o a b) = simp (add-suc, suc-add, suc-sub-suc)
+  fewer (Semicolon a b) = simp (add-suc, suc-add, suc-sub-suc)
+
+  one-fewer : (at : ℕ) → suc base ≤ at → itemAt base (x ∷ v) at ≡ itemAt (suc base) v at
+  unfolding itemAt
+  one-fewer at h =
+      let e : at - base ≡ suc (at - suc base) = omega arith in
+      rw (e, next-up x v (at - suc base)) (fewer (nextToken v (at - suc base)))
+
+part-shows : (o base : ℕ) (s : List ℕ) (at : ℕ) → o ≤ length s → base + o ≤ at → itemAt (base + o) (drop o s) at ≡ itemAt base s at
+part-shows zero base s at l h = ap (λ (b : ℕ). itemAt b s at) (omega arith)
+part-shows (suc o) base [] at l h = absurd (omega arith)
+part-shows (suc o) base (x ∷ v) at l h =
+    ap (λ (b : ℕ). itemAt b (drop o v) at) (omega arith)
+    ∙ part-shows o (suc base) v at (omega arith) (omega arith)
+    ∙ sym (one-fewer x v base at (omega arith))
+
+-- the file from the place o on, from a place in it
+pub from-there : (o : ℕ) (s : List ℕ) (at : ℕ) → o ≤ length s → o ≤ at → itemAt o (drop o s) at ≡ itemAt 0 s at
+from-there o s at l h = ap (λ (b : ℕ). itemAt b (drop o s) at) (omega arith) ∙ part-shows o 0 s at l (omega arith)

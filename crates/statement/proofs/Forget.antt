@@ -1,0 +1,186 @@
+-- A statement with its values is whole, and ends, exactly where the words of `Plain` say, and is refused as they say. Assumes nothing.
+use Prim.Native.Nat.{ℕ}
+use mathlib.Core.Path.{_≡_, refl, sym, _∙_, ap, ap₂}
+use mathlib.Core.Bool.{Bool, true, false, true≢false, cond, _&&_, and-false}
+use mathlib.Core.List.{List, [], _∷_}
+use lib.Dec.{eqb}
+use Rattle.counts.specs.Refusals.{noToken, unexpected, notReal, refusal}
+use Rattle.token.specs.declared.Operator.{Operator}
+use Rattle.grammar.specs.Grammar.{Class, classNo, isClass, shape}
+use Rattle.grammar.specs.Grammar.Class.{JOB, RESPONSE, UPLOAD, DOWNLOAD, GETINFO, ABORT, REPORT, EVENT, START, ACTIVE, IMMEDIATE, reserved, name, TIME≥, number, date, unrealDate, time, unrealTime, string, operator, semicolon}
+use Rattle.grammar.specs.Grammar.Point.{statement}
+use Rattle.item.specs.Tokens.{Next, nextItem}
+use Rattle.item.specs.Tokens.Next.{item, ended, none}
+use Rattle.item.specs.Items.{endNo, noneNo, itemAt}
+use Rattle.item.specs.declared.Item.{Item}
+use Rattle.item.proofs.Shows.{Shows, shows}
+use Rattle.item.proofs.Shows.Shows.{a-token, the-end, no-token}
+use Rattle.statement.specs.declared.Part.{Part as Name}
+use Rattle.statement.specs.declared.Aborted.{Aborted}
+use Rattle.statement.specs.declared.Statement.{Statement}
+use Rattle.statement.specs.declared.Transfer.{Transfer}
+use Rattle.statement.specs.declared.StatementRead.{StatementRead}
+use Rattle.statement.specs.declared.StatementRead.the-variants.{Is, Refused}
+use Rattle.statement.specs.Statement as values
+use Rattle.statement.specs.Statement.{no, unexpectedAt}
+use Rattle.statement.proofs.Plain as plain
+use Rattle.statement.proofs.Plain.{Part}
+use Rattle.statement.proofs.Plain.Part.{whole, stopped}
+
+abbrev pub forget : StatementRead → Part
+forget (Is x b) = whole b
+forget (Refused r) = stopped (r .number) (r .place)
+
+-- the same classes, each read on alike
+abbrev pub Alike : List values.Branch → List plain.Branch → Type 0
+Alike [] [] = Unit {0}
+Alike [] (y ∷ cs) = ⊥
+Alike (x ∷ bs) [] = ⊥
+Alike (x ∷ bs) (y ∷ cs) = (x .class ≡ y .class) × ((t : Item) → forget (x .go t) ≡ y .go (t .next)) × Alike bs cs
+
+has-alike : (c : Class) (bs : List values.Branch) (cs : List plain.Branch) → Alike bs cs → values.has c bs ≡ plain.has c cs
+has-alike c [] [] a = refl
+has-alike c [] (y ∷ cs) a = absurd a
+has-alike c (x ∷ bs) [] a = absurd a
+has-alike c (x ∷ bs) (y ∷ cs) a = rw (a .0, has-alike c bs cs (a .2))
+
+-- a number that no class has
+abbrev Foreign : ℕ → Type 0
+Foreign n = (c : Class) → eqb n (classNo c) ≡ false
+
+end-foreign : Foreign endNo
+end-foreign JOB = refl
+end-foreign RESPONSE = refl
+end-foreign UPLOAD = refl
+end-foreign DOWNLOAD = refl
+end-foreign GETINFO = refl
+end-foreign ABORT = refl
+end-foreign REPORT = refl
+end-foreign EVENT = refl
+end-foreign START = refl
+end-foreign ACTIVE = refl
+end-foreign IMMEDIATE = refl
+end-foreign reserved = refl
+end-foreign name = refl
+end-foreign TIME≥ = refl
+end-foreign number = refl
+end-foreign date = refl
+end-foreign unrealDate = refl
+end-foreign time = refl
+end-foreign unrealTime = refl
+end-foreign string = refl
+end-foreign operator = refl
+end-foreign semicolon = refl
+
+none-foreign : Foreign noneNo
+none-foreign JOB = refl
+none-foreign RESPONSE = refl
+none-foreign UPLOAD = refl
+none-foreign DOWNLOAD = refl
+none-foreign GETINFO = refl
+none-foreign ABORT = refl
+none-foreign REPORT = refl
+none-foreign EVENT = refl
+none-foreign START = refl
+none-foreign ACTIVE = refl
+none-foreign IMMEDIATE = refl
+none-foreign reserved = refl
+none-foreign name = refl
+none-foreign TIME≥ = refl
+none-foreign number = refl
+none-foreign date = refl
+none-foreign unrealDate = refl
+none-foreign time = refl
+none-foreign unrealTime = refl
+none-foreign string = refl
+none-foreign operator = refl
+none-foreign semicolon = refl
+
+no-class : (t : Item) (n : ℕ) → t .class ≡ n → Foreign n → (bs : List values.Branch) (r : StatementRead) → values.pick t bs r ≡ r
+no-class t n e f [] r = refl
+no-class t n e f (x ∷ bs) r = rw (e, f (x .class)) (rw e at (no-class t n e f bs r))
+
+-- nothing is refused as not real at the end of the file, or where no token stands
+not-unreal : (t : Item) (n : ℕ) → t .class ≡ n → Foreign n → (bs : List values.Branch) → values.otherwise t bs ≡ unexpectedAt t
+not-unreal t n e f bs = rw (e, f unrealTime, f unrealDate, and-false (values.has time bs), and-false (values.has date bs))
+
+-- where the class stands in the list, what is refused does not matter
+not-refused : (c : Class) (b : ℕ) (cs : List plain.Branch) (r q : Part) → plain.has c cs ≡ true → plain.pick c b cs r ≡ plain.pick c b cs q
+not-refused c b [] r q h = absurd (true≢false (sym h))
+not-refused c b (x ∷ cs) r q h = go (λ k. not-refused c b cs r q k) (isClass c (x .class)) h
+  where
+    go : (plain.has c cs ≡ true → plain.pick c b cs r ≡ plain.pick c b cs q) → (y : Bool) → cond y true (plain.has c cs) ≡ true → cond y (x .go b) (plain.pick c b cs r) ≡ cond y (x .go b) (plain.pick c b cs q)
+    go later true k = refl
+    go later false k = later k
+
+-- what is refused of a token of class c that does not stand in the list
+abbrev refusedOf : Class → ℕ → Bool → Bool → Part
+refusedOf c p times dates =
+    cond (times && eqb (classNo c) (classNo unrealTime)) (stopped notReal p)
+    (cond (dates && eqb (classNo c) (classNo unrealDate)) (stopped notReal p) (cond (eqb (classNo c) noneNo) (stopped noToken p) (stopped unexpected p)))
+
+neither : (x y : Bool) (p : ℕ) → cond (x && false) (stopped notReal p) (cond (y && false) (stopped notReal p) (stopped unexpected p)) ≡ stopped unexpected p
+neither x y p = rw (and-false x, and-false y)
+
+at-time : (x y : Bool) (p : ℕ) → cond (x && true) (stopped notReal p) (cond (y && false) (stopped notReal p) (stopped unexpected p)) ≡ cond x (stopped notReal p) (stopped unexpected p)
+at-time true y p = refl
+at-time false y p = rw (and-false y)
+
+at-date : (x y : Bool) (p : ℕ) → cond (x && false) (stopped notReal p) (cond (y && true) (stopped notReal p) (stopped unexpected p)) ≡ cond y (stopped notReal p) (stopped unexpected p)
+at-date x true p = rw (and-false x)
+at-date x false p = rw (and-false x)
+
+refused-so : (c : Class) (p : ℕ) (cs : List plain.Branch) → plain.has c cs ≡ false → refusedOf c p (plain.has time cs) (plain.has date cs) ≡ cond (plain.has (shape c) cs) (stopped notReal p) (stopped unexpected p)
+refused-so JOB p cs h = neither (plain.has time cs) (plain.has date cs) p ∙ rw h
+refused-so RESPONSE p cs h = neither (plain.has time cs) (plain.has date cs) p ∙ rw h
+refused-so UPLOAD p cs h = neither (plain.has time cs) (plain.has date cs) p ∙ rw h
+refused-so DOWNLOAD p cs h = neither (plain.has time cs) (plain.has date cs) p ∙ rw h
+refused-so GETINFO p cs h = neither (plain.has time cs) (plain.has date cs) p ∙ rw h
+refused-so ABORT p cs h = neither (plain.has time cs) (plain.has date cs) p ∙ rw h
+refused-so REPORT p cs h = neither (plain.has time cs) (plain.has date cs) p ∙ rw h
+refused-so EVENT p cs h = neither (plain.has time cs) (plain.has date cs) p ∙ rw h
+refused-so START p cs h = neither (plain.has time cs) (plain.has date cs) p ∙ rw h
+refused-so ACTIVE p cs h = neither (plain.has time cs) (plain.has date cs) p ∙ rw h
+refused-so IMMEDIATE p cs h = neither (plain.has time cs) (plain.has date cs) p ∙ rw h
+refused-so reserved p cs h = neither (plain.has time cs) (plain.has date cs) p ∙ rw h
+refused-so name p cs h = neither (plain.has time cs) (plain.has date cs) p ∙ rw h
+refused-so TIME≥ p cs h = neither (plain.has time cs) (plain.has date cs) p ∙ rw h
+refused-so number p cs h = neither (plain.has time cs) (plain.has date cs) p ∙ rw h
+refused-so date p cs h = neither (plain.has time cs) (plain.has date cs) p ∙ rw h
+refused-so unrealDate p cs h = at-date (plain.has time cs) (plain.has date cs) p
+refused-so time p cs h = neither (plain.has time cs) (plain.has date cs) p ∙ rw h
+refused-so unrealTime p cs h = at-time (plain.has time cs) (plain.has date cs) p
+refused-so string p cs h = neither (plain.has time cs) (plain.has date cs) p ∙ rw h
+refused-so operator p cs h = neither (plain.has time cs) (plain.has date cs) p ∙ rw h
+refused-so semicolon p cs h = neither (plain.has time cs) (plain.has date cs) p ∙ rw h
+
+forget-cond : (b : Bool) (x y : StatementRead) → forget (cond b x y) ≡ cond b (forget x) (forget y)
+forget-cond true x y = refl
+forget-cond false x y = refl
+
+-- a token
+module _ (t : Item) (c : Class) (p b : ℕ) (ec : t .class ≡ classNo c) (ep : t .place ≡ p) (eb : t .next ≡ b) where
+  pick-alike : (r : StatementRead) (bs : List values.Branch) (cs : List plain.Branch) → Alike bs cs → forget (values.pick t bs r) ≡ plain.pick c b cs (forget r)
+  pick-alike r [] [] a = refl
+  pick-alike r [] (y ∷ cs) a = absurd a
+  pick-alike r (x ∷ bs) [] a = absurd a
+  pick-alike r (x ∷ bs) (y ∷ cs) a =
+      ap (λ (z : Bool). forget (cond z (x .go t) (values.pick t bs r))) (ap₂ eqb ec (ap classNo (a .0)))
+      ∙ go (pick-alike r bs cs (a .2)) (isClass c (y .class))
+    where
+      go : forget (values.pick t bs r) ≡ plain.pick c b cs (forget r) → (z : Bool) → forget (cond z (x .go t) (values.pick t bs r)) ≡ cond z (y .go b) (plain.pick c b cs (forget r))
+      go later true = a .1 t ∙ ap (y .go) eb
+      go later false = later
+
+  otherwise-alike : (bs : List values.Branch) (cs : List plain.Branch) → Alike bs cs → forget (values.otherwise t bs) ≡ refusedOf c p (plain.has time cs) (plain.has date cs)
+  otherwise-alike bs cs a = simp (forget-cond, has-alike time bs cs a, has-alike date bs cs a, ec, ep)
+
+  on-token : (bs : List values.Branch) (cs : List plain.Branch) → Alike bs cs → (h : Bool) → plain.has c cs ≡ h → forget (values.onItem bs t) ≡ plain.pick c b cs (cond (plain.has (shape c) cs) (stopped notReal p) (stopped unexpected p))
+  on-token bs cs a true h = pick-alike (values.otherwise t bs) bs cs a ∙ not-refused c b cs _ _ h
+  on-token bs cs a false h = pick-alike (values.otherwise t bs) bs cs a ∙ ap (plain.pick c b cs) (otherwise-alike bs cs a ∙ refused-so c p cs h)
+
+-- one law for every word
+pub on-alike : (bs : List values.Branch) (cs : List plain.Branch) → Alike bs cs → (t : Item) (x : Next) → Shows t x → forget (values.onItem bs t) ≡ plain.onItem cs x
+on-alike bs cs a t x (the-end {p = p} e q) = ap forget (no-class t endNo e end-foreign bs _ ∙ not-unreal t endNo e end-foreign bs) ∙ rw (e, q)
+on-alike bs cs a t x (no-token {p = p} e q) = ap forget (no-class t noneNo e none-foreign bs _ ∙ not-unreal t noneNo e none-foreign bs) ∙ rw (e, q)
+on-alike bs cs a t x (a-token {u = u} {b = b} e p n) = on-token t (u .class) (u .place) b e p n bs cs a (plain.has (u .class) cs) refl
