@@ -1,2 +1,3 @@
 pub mod Examples
-pub mod Demand1
+pub mod Demand1Names
+pub mod Demand1Table

@@ -4,6 +4,7 @@ use mathlib.Core.Path.{_≡_, refl}
 use mathlib.Core.Bool.{Bool, true, false, cond}
 use native.Mathlib.Omega.{arith}
 use Rattle.counts.specs.Result.{Result, refused, done}
+use Rattle.counts.specs.declared.Refusal.{Refusal}
 
 module _ {A : Type 0} where
   pub refused-not-done : {n p : ℕ} {a : A} → refused n p ≡ done a → ⊥
@@ -13,3 +14,7 @@ module _ {A : Type 0} where
   pub passed : (t : Bool) (x : Result A) (n p : ℕ) {a : A} → cond t x (refused n p) ≡ done a → (t ≡ true) × (x ≡ done a)
   passed true x n p h = (refl, h)
   passed false x n p h = absurd (refused-not-done h)
+
+-- a refusal is its number and its place
+pub same-refusal : {r t : Refusal} → r .number ≡ t .number → r .place ≡ t .place → r ≡ t
+same-refusal p q = λ i. record { number = p i; place = q i }

@@ -12,8 +12,7 @@ use Rattle.session_name.specs.declared.NameRead.{NameRead}
 use Rattle.session_name.specs.declared.NameRead.the-variants.{Named, Refused}
 use Rattle.session_name.specs.declared.NameWritten.{NameWritten}
 use Rattle.session_name.specs.declared.NameWritten.the-variants.{Bytes, Refused as NotWritten}
-use Rattle.counts.proofs.Results.{refused-not-done}
-use Rattle.counts.specs.declared.Refusal.{Refusal}
+use Rattle.counts.proofs.Results.{refused-not-done, same-refusal}
 
 pub says-none : {r : NameRead} → r ≡ Refused (refusal outOfRange 0) → readSays r ≡ noName
 says-none e = ap readSays e
@@ -25,9 +24,6 @@ says-number x max name d e p q = p ∙ ap (numberRead max name) q
 pub ruleset names = (choose, says-none, says-number)
 
 -- ---- an answer's paper value loses nothing: two answers with the same value are the same answer
-
-same-refusal : {r t : Refusal} → r .number ≡ t .number → r .place ≡ t .place → r ≡ t
-same-refusal p q = λ i. record { number = p i; place = q i }
 
 pub read-says-all : (a b : NameRead) → readSays a ≡ readSays b → a ≡ b
 read-says-all (Named n k) (Named m l) h =

@@ -1,4 +1,4 @@
--- Demand 1, call by call. "Each public call's contract determines the returned answer and all memory lent to it, refusals included": two results
+-- Demand 1 for the calls on session names. "Each public call's contract determines the returned answer and all memory lent to it, refusals included": two results
 -- that meet a call's contract are equal. "A refusal comes exactly where document 01 says ... and leaves all lent memory as it found it": an answer is
 -- given exactly under its row's condition, and a refused call's memory at exit is its memory at entry. The calls of `calendar` answer yes or no by one
 -- word of specs/, so their contracts are equations and nothing is left to say of them. Assumes nothing.

@@ -1,0 +1,235 @@
+-- Demand 1 for the calls of the session table. Two results that meet a call's contract are equal, answer and bytes; each answer is given exactly under
+-- its row's condition, in document 01's order; and a refused call leaves every byte of the table as it was. Assumes nothing.
+use Prim.Native.Nat.{ℕ, _+_, _≤_, _<_}
+use mathlib.Core.Path.{_≡_, refl, sym, ap, ap₂, _∙_}
+use mathlib.Core.Bool.{Bool, true, false, cond, _&&_}
+use mathlib.Core.List.{List}
+use lib.Dec.{eqb, leb, ltb}
+use lib.ListN.{length}
+use borrow.Author.Tests.{eq-eqb, ne-eqb, eqb-true, eqb-false, lt-ltb, le-ltb, ltb-true, ltb-false}
+use Rattle.counts.specs.Limits.{commands, programs, sessions, ticketMost}
+use Rattle.counts.specs.Refusals.{notReal, notARecord, allTaken, notTheOne, outOfRange, noTicketLeft, unsound, nothingUnanswered}
+use Rattle.counts.specs.Result.{Result, refused, done}
+use Rattle.counts.specs.declared.Refusal.{Refusal}
+use Rattle.counts.proofs.Results.{refused-not-done, same-refusal}
+use Rattle.sessions.specs.Find.{Found, none, at, find}
+use Rattle.sessions.specs.Records.{isOutcome, isDated}
+use Rattle.sessions.specs.Table.{State, within, isOpen, isWaiting, turn, lowest, names, placeIn, place, takeNext, takeHand, takeUp, answerHand, answer}
+use Rattle.sessions.specs.declared.Answer.{Answer}
+use Rattle.table_layout.specs.Layout.{tableBytes}
+use Rattle.table_sound.specs.Bytes.{abs, soundBytes}
+use Rattle.session_table.specs.Calls.{ifSound, after, making, madeBytes, placing, placedAt, placedBytes, takingUp, takenAt, takenBytes, answering, answeredAs, answeredBytes}
+use Rattle.session_table.specs.Paper.{paperMade, paperPlaced, paperTakenUp, paperAnswered}
+use Rattle.session_table.specs.declared.Made.{Made}
+use Rattle.session_table.specs.declared.Made.the-variants.{Fresh, Refused as NotMade}
+use Rattle.session_table.specs.declared.Placed.{Placed}
+use Rattle.session_table.specs.declared.Placed.the-variants.{At, Refused as NotPlaced}
+use Rattle.session_table.specs.declared.TakenUp.{TakenUp}
+use Rattle.session_table.specs.declared.TakenUp.the-variants.{Given, Refused as NotTakenUp}
+use Rattle.session_table.specs.declared.Answered.{Answered}
+use Rattle.session_table.specs.declared.Answered.the-variants.{Accepted, Refused as NotAnswered}
+
+-- ---- the rows, one statement a call: what stands before a condition has been tested and passed
+
+-- make: "making tests 11, then 13 if the lent memory has not a table's size"
+pub data MakeRow (b : List ℕ) (max : ℕ) : Result (Unit {0}) → Type 0 where
+  eleven : within 1 max sessions ≡ false → MakeRow b max (refused outOfRange 0)
+  thirteen : within 1 max sessions ≡ true → (length b ≡ tableBytes → ⊥) → MakeRow b max (refused unsound 0)
+  made : within 1 max sessions ≡ true → length b ≡ tableBytes → MakeRow b max (done tt)
+
+-- place: "Order 13, 11, 9, 12"; σ is the table that the bytes hold
+abbrev pub mayPlace : ℕ → ℕ → Bool
+mayPlace p n = within 1 p programs && within 1 n commands
+
+abbrev pub openNumber : State → Found
+openNumber σ = find (σ .max) (λ s. isOpen (σ .slot s))
+
+pub data PlaceRow (b : List ℕ) (σ : State) (p n : ℕ) : Result (ℕ × ℕ) → Type 0 where
+  thirteen : soundBytes b ≡ false → PlaceRow b σ p n (refused unsound 0)
+  eleven : soundBytes b ≡ true → mayPlace p n ≡ false → PlaceRow b σ p n (refused outOfRange 0)
+  nine : soundBytes b ≡ true → mayPlace p n ≡ true → openNumber σ ≡ none → PlaceRow b σ p n (refused allTaken 0)
+  twelve : (s : ℕ) → soundBytes b ≡ true → mayPlace p n ≡ true → openNumber σ ≡ at s → ticketMost ≤ σ .last → PlaceRow b σ p n (refused noTicketLeft 0)
+  placed : (s : ℕ) → soundBytes b ≡ true → mayPlace p n ≡ true → openNumber σ ≡ at s → σ .last < ticketMost → PlaceRow b σ p n (done (s, σ .last + 1))
+
+-- take up: "Order 13, 14"
+abbrev pub nextInTurn : State → Found
+nextInTurn σ = find (σ .max) (λ i. isWaiting (σ .slot (turn σ i)))
+
+abbrev pub command : State → ℕ → ℕ × ℕ × ℕ
+command σ s = (s, σ .slot s .ticket, lowest (σ .slot s))
+
+pub data TakeUpRow (b : List ℕ) (σ : State) : Result (ℕ × ℕ × ℕ) → Type 0 where
+  thirteen : soundBytes b ≡ false → TakeUpRow b σ (refused unsound 0)
+  again : (s : ℕ) → soundBytes b ≡ true → σ .hand ≡ at s → TakeUpRow b σ (done (command σ s))
+  fourteen : soundBytes b ≡ true → σ .hand ≡ none → nextInTurn σ ≡ none → TakeUpRow b σ (refused nothingUnanswered 0)
+  taken-up : (i : ℕ) → soundBytes b ≡ true → σ .hand ≡ none → nextInTurn σ ≡ at i → TakeUpRow b σ (done (command σ (turn σ i)))
+
+-- answer: "must name the command in hand. Order 13, 10, 5, 7"
+pub data AnswerRow (b : List ℕ) (σ : State) (t c : ℕ) (a : Answer) : Result (Unit {0}) → Type 0 where
+  thirteen : soundBytes b ≡ false → AnswerRow b σ t c a (refused unsound 0)
+  ten-empty : soundBytes b ≡ true → σ .hand ≡ none → AnswerRow b σ t c a (refused notTheOne 0)
+  ten-other : (s : ℕ) → soundBytes b ≡ true → σ .hand ≡ at s → names (σ .slot s) t c ≡ false → AnswerRow b σ t c a (refused notTheOne 0)
+  five : (s : ℕ) → soundBytes b ≡ true → σ .hand ≡ at s → names (σ .slot s) t c ≡ true → isDated a ≡ false → AnswerRow b σ t c a (refused notReal 0)
+  seven : (s : ℕ) → soundBytes b ≡ true → σ .hand ≡ at s → names (σ .slot s) t c ≡ true → isDated a ≡ true → isOutcome (a .outcome) ≡ false
+      → AnswerRow b σ t c a (refused notARecord 0)
+  answered : (s : ℕ) → soundBytes b ≡ true → σ .hand ≡ at s → names (σ .slot s) t c ≡ true → isDated a ≡ true → isOutcome (a .outcome) ≡ true
+      → AnswerRow b σ t c a (done tt)
+
+-- a call says v exactly when a row does
+abbrev pub Exactly : {A : Type 0} → Result A → (Result A → Type 0) → Type 0
+Exactly {A} x Row = Row x × ((v : Result A) → Row v → x ≡ v)
+
+-- ---- the proofs
+
+pub make-exactly : (b : List ℕ) (max : ℕ) → Exactly (making b max) (MakeRow b max)
+unfolding making
+make-exactly b max = (go (within 1 max sessions) (eqb (length b) tableBytes) refl refl, is)
+  where
+    go : (t u : Bool) → within 1 max sessions ≡ t → eqb (length b) tableBytes ≡ u
+        → MakeRow b max (cond t (cond u (done tt) (refused unsound 0)) (refused outOfRange 0))
+    go true true p q = made p (eqb-true (length b) tableBytes q)
+    go true false p q = thirteen p (eqb-false (length b) tableBytes q)
+    go false u p q = eleven p
+
+    is : (v : Result (Unit {0})) → MakeRow b max v → making b max ≡ v
+    is v (eleven p) = rw p
+    is v (thirteen p q) = rw (p, ne-eqb _ _ q)
+    is v (made p q) = rw (p, eq-eqb _ _ q)
+
+pub place-exactly : (b : List ℕ) (p n : ℕ) → Exactly (placing b p n) (PlaceRow b (abs b) p n)
+unfolding placing place placeIn
+place-exactly b p n = (go (soundBytes b) (mayPlace p n) (openNumber (abs b)) (ltb (abs b .last) ticketMost) refl refl refl refl, is)
+  where
+    go : (t u : Bool) (f : Found) (w : Bool) → soundBytes b ≡ t → mayPlace p n ≡ u → openNumber (abs b) ≡ f → ltb (abs b .last) ticketMost ≡ w
+        → PlaceRow b (abs b) p n (cond t (cond u (placeIn (abs b) p n f) (refused outOfRange 0, abs b) .0) (refused unsound 0))
+    go false u f w a c d e = thirteen a
+    go true false f w a c d e = eleven a c
+    go true true none w a c d e = nine a c d
+    go true true (at s) true a c d e = rw e (placed s a c d (ltb-true _ _ e))
+    go true true (at s) false a c d e = rw e (twelve s a c d (ltb-false _ _ e))
+
+    is : (v : Result (ℕ × ℕ)) → PlaceRow b (abs b) p n v → placing b p n ≡ v
+    is v (thirteen a) = rw a
+    is v (eleven a c) = rw (a, c)
+    is v (nine a c d) = rw (a, c, d)
+    is v (twelve s a c d e) = rw (a, c, d, le-ltb _ _ e)
+    is v (placed s a c d e) = rw (a, c, d, lt-ltb _ _ e)
+
+pub take-up-exactly : (b : List ℕ) → Exactly (takingUp b) (TakeUpRow b (abs b))
+unfolding takingUp takeUp takeHand takeNext
+take-up-exactly b = (go (soundBytes b) (abs b .hand) (nextInTurn (abs b)) refl refl refl, is)
+  where
+    go : (t : Bool) (h f : Found) → soundBytes b ≡ t → abs b .hand ≡ h → nextInTurn (abs b) ≡ f
+        → TakeUpRow b (abs b) (cond t (takeHand (abs b) h .0) (refused unsound 0))
+    go false h f a c d = thirteen a
+    go true (at s) f a c d = again s a c
+    go true none none a c d = rw d (fourteen a c d)
+    go true none (at i) a c d = rw d (taken-up i a c d)
+
+    is : (v : Result (ℕ × ℕ × ℕ)) → TakeUpRow b (abs b) v → takingUp b ≡ v
+    is v (thirteen a) = rw a
+    is v (again s a c) = rw (a, c)
+    is v (fourteen a c d) = rw (a, c, d)
+    is v (taken-up i a c d) = rw (a, c, d)
+
+pub answer-exactly : (b : List ℕ) (t c : ℕ) (x : Answer) → Exactly (answering b t c x) (AnswerRow b (abs b) t c x)
+unfolding answering answer answerHand
+answer-exactly b t c x = (go (soundBytes b) (abs b .hand) refl refl, is)
+  where
+    in-hand : (s : ℕ) (n d o : Bool) → soundBytes b ≡ true → abs b .hand ≡ at s → names (abs b .slot s) t c ≡ n → isDated x ≡ d → isOutcome (x .outcome) ≡ o
+        → AnswerRow b (abs b) t c x (answerHand (abs b) t c x (at s) .0)
+    in-hand s false d o a h e f g = rw e (ten-other s a h e)
+    in-hand s true false o a h e f g = rw (e, f) (five s a h e f)
+    in-hand s true true false a h e f g = rw (e, f, g) (seven s a h e f g)
+    in-hand s true true true a h e f g = rw (e, f, g) (answered s a h e f g)
+
+    go : (u : Bool) (h : Found) → soundBytes b ≡ u → abs b .hand ≡ h → AnswerRow b (abs b) t c x (cond u (answerHand (abs b) t c x h .0) (refused unsound 0))
+    go false h a e = thirteen a
+    go true none a e = ten-empty a e
+    go true (at s) a e = in-hand s (names (abs b .slot s) t c) (isDated x) (isOutcome (x .outcome)) a e refl refl refl
+
+    is : (v : Result (Unit {0})) → AnswerRow b (abs b) t c x v → answering b t c x ≡ v
+    is v (thirteen a) = rw a
+    is v (ten-empty a h) = rw (a, h)
+    is v (ten-other s a h e) = rw (a, h, e)
+    is v (five s a h e f) = rw (a, h, e, f)
+    is v (seven s a h e f g) = rw (a, h, e, f, g)
+    is v (answered s a h e f g) = rw (a, h, e, f, g)
+
+-- ---- a refused call leaves every byte as it was: one law for all calls, whose bytes at exit are `after` their answer
+
+refused-keeps : {A : Type 0} (x : Result A) (b : List ℕ) (f : A → List ℕ) (number place : ℕ) → x ≡ refused number place → after x b f ≡ b
+refused-keeps x b f number place e = rw e
+
+pub make-refused-keeps : (b : List ℕ) (max number place : ℕ) → making b max ≡ refused number place → madeBytes b max ≡ b
+unfolding madeBytes
+make-refused-keeps b max number place = refused-keeps (making b max) b _ number place
+
+pub place-refused-keeps : (b : List ℕ) (p n number place : ℕ) → placing b p n ≡ refused number place → placedBytes b p n ≡ b
+unfolding placedBytes
+place-refused-keeps b p n number place = refused-keeps (placing b p n) b _ number place
+
+pub take-up-refused-keeps : (b : List ℕ) (number place : ℕ) → takingUp b ≡ refused number place → takenBytes b ≡ b
+unfolding takenBytes
+take-up-refused-keeps b number place = refused-keeps (takingUp b) b _ number place
+
+pub answer-refused-keeps : (b : List ℕ) (t c : ℕ) (x : Answer) (number place : ℕ) → answering b t c x ≡ refused number place → answeredBytes b t c x ≡ b
+unfolding answeredBytes
+answer-refused-keeps b t c x number place = refused-keeps (answering b t c x) b _ number place
+
+-- ---- the paper's value of an answer loses nothing, so two results that meet a contract are equal
+
+made-all : (a b : Made) → paperMade a ≡ paperMade b → a ≡ b
+unfolding paperMade
+made-all Fresh Fresh h = refl
+made-all Fresh (NotMade r) h = absurd (refused-not-done (sym h))
+made-all (NotMade r) Fresh h = absurd (refused-not-done h)
+made-all (NotMade r) (NotMade t) h = ap NotMade (same-refusal (cc) (cc))
+
+placed-all : (a b : Placed) → paperPlaced a ≡ paperPlaced b → a ≡ b
+unfolding paperPlaced
+placed-all (At s t) (At s′ t′) h =
+    let p : _≡_ {A = ℕ × ℕ} (s .0, t .0) (s′ .0, t′ .0) = cc in
+    ap₂ At (λ i. record { 0 = p i .0 }) (λ i. record { 0 = p i .1 })
+placed-all (At s t) (NotPlaced r) h = absurd (refused-not-done (sym h))
+placed-all (NotPlaced r) (At s t) h = absurd (refused-not-done h)
+placed-all (NotPlaced r) (NotPlaced t) h = ap NotPlaced (same-refusal (cc) (cc))
+
+taken-up-all : (a b : TakenUp) → paperTakenUp a ≡ paperTakenUp b → a ≡ b
+unfolding paperTakenUp
+taken-up-all (Given s t c) (Given s′ t′ c′) h =
+    let p : _≡_ {A = ℕ × ℕ × ℕ} (s .0, t .0, c .0) (s′ .0, t′ .0, c′ .0) = cc in
+    λ i. Given (record { 0 = p i .0 }) (record { 0 = p i .1 }) (record { 0 = p i .2 })
+taken-up-all (Given s t c) (NotTakenUp r) h = absurd (refused-not-done (sym h))
+taken-up-all (NotTakenUp r) (Given s t c) h = absurd (refused-not-done h)
+taken-up-all (NotTakenUp r) (NotTakenUp t) h = ap NotTakenUp (same-refusal (cc) (cc))
+
+answered-all : (a b : Answered) → paperAnswered a ≡ paperAnswered b → a ≡ b
+unfolding paperAnswered
+answered-all Accepted Accepted h = refl
+answered-all Accepted (NotAnswered r) h = absurd (refused-not-done (sym h))
+answered-all (NotAnswered r) Accepted h = absurd (refused-not-done h)
+answered-all (NotAnswered r) (NotAnswered t) h = ap NotAnswered (same-refusal (cc) (cc))
+
+-- a contract of the shape that every call of the table has: the answer's paper value, and the bytes at exit
+abbrev pub Meets : {A B : Type 0} → (A → B) → B → List ℕ → A → List ℕ → Type 0
+Meets says v bytes r exit = (says r ≡ v) × (exit ≡ bytes)
+
+abbrev pub OneResult : {A B : Type 0} → (A → B) → Type 0
+OneResult {A} {B} says =
+    (v : B) (bytes : List ℕ) (a b : A) (exit exit′ : List ℕ) → Meets says v bytes a exit → Meets says v bytes b exit′ → (a ≡ b) × (exit ≡ exit′)
+
+one-result : {A B : Type 0} (says : A → B) → ((a b : A) → says a ≡ says b → a ≡ b) → OneResult says
+one-result says all v bytes a b exit exit′ p q = (all a b (p .0 ∙ sym (q .0)), p .1 ∙ sym (q .1))
+
+pub make-determined : OneResult paperMade
+make-determined = one-result paperMade made-all
+
+pub place-determined : OneResult paperPlaced
+place-determined = one-result paperPlaced placed-all
+
+pub take-up-determined : OneResult paperTakenUp
+take-up-determined = one-result paperTakenUp taken-up-all
+
+pub answer-determined : OneResult paperAnswered
+answer-determined = one-result paperAnswered answered-all
