@@ -4,3 +4,4 @@ pub mod Placing
 pub mod Hands
 pub mod Turns
 pub mod Answering
+pub mod Collecting

@@ -89,7 +89,7 @@ module _ (b : List ℕ) where
 
     -- taken up next
     module _ (e : number b handAt ≡ 0) (i : ℕ) (found : i ≡ orNone (nextIn b) (number b maxAt)) where
-      next-found : nextIn b ≡ at i
+      pub next-found : nextIn b ≡ at i
       unfolding takingUp takeUp takeHand takeNext
       next-found =
           go (nextIn b) refl (subst (λ (f : Found). only (takeHand (abs b) f .0) ≡ done tt) (hand-empty b _ refl e) (passed (soundBytes b) _ unsound 0 ok .1))

@@ -7,13 +7,14 @@ use lib.ListN.{length, replicate}
 use Rattle.counts.specs.Limits.{sessions}
 use Rattle.counts.specs.Refusals.{outOfRange, unsound}
 use Rattle.counts.specs.Result.{Result, refused, done}
-use Rattle.sessions.specs.Table.{State, within, place, takeUp, names, answer}
-use Rattle.sessions.specs.Find.{Found, none, at}
+use Rattle.field.specs.Part.{put}
+use Rattle.sessions.specs.Table.{State, within, place, takeUp, names, answer, isReady, collect}
+use Rattle.sessions.specs.Find.{Found, none, at, orNone, find}
 use Rattle.sessions.specs.declared.Answer.{Answer}
-use Rattle.table_layout.specs.Layout.{tableBytes, number, putNumber, lastAt, markAt, handAt, freshTable, putTable, putHead}
+use Rattle.table_layout.specs.Layout.{tableBytes, maxAt, headAt, number, putNumber, lastAt, markAt, handAt, freshTable, putTable, putHead}
 use Rattle.table_layout.specs.declared.Head.{Head}
 use Rattle.table_slot.specs.Slots.{withEntry, slotAt, putSlot}
-use Rattle.table_sound.specs.Bytes.{abs, soundBytes}
+use Rattle.table_sound.specs.Bytes.{slotOf, abs, soundBytes}
 
 -- Refusal 13 goes before all others: "lent session table unsound".
 abbrev pub ifSound : {A : Type 0} → List ℕ → Result A → Result A
@@ -83,3 +84,19 @@ answeredAs b a = putNumber (putSlot b (inHand b) (withEntry (slotAt b (inHand b)
 
 unfoldable pub answeredBytes : List ℕ → ℕ → ℕ → Answer → List ℕ
 answeredBytes b t c a = after (answering b t c a) b (λ r. answeredAs b a)
+
+-- "Collect": its number is open again. What is written is the reply, from the start of the lent output on.
+unfoldable pub collecting : List ℕ → ℕ → ℕ → ℕ → Result (List ℕ)
+collecting b p t room = ifSound b (collect (abs b) p t room .0)
+
+abbrev pub readyIn : List ℕ → ℕ → ℕ → ℕ
+readyIn b p t = orNone (find (number b maxAt) (λ s. isReady p t (slotOf b s))) (number b maxAt)
+
+abbrev pub collectedAt : List ℕ → ℕ → List ℕ
+collectedAt b s = putNumber b (headAt s) 0
+
+unfoldable pub collectedBytes : List ℕ → ℕ → ℕ → ℕ → List ℕ
+collectedBytes b p t room = after (collecting b p t room) b (λ r. collectedAt b (readyIn b p t))
+
+unfoldable pub collectedOut : List ℕ → ℕ → ℕ → List ℕ → List ℕ
+collectedOut b p t out = after (collecting b p t (length out)) out (λ r. put out 0 r)

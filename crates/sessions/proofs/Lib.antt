@@ -2,6 +2,7 @@ pub mod Laws
 pub mod Loops
 pub mod Parts
 pub mod Did
+pub mod Stays
 pub mod SoundKept
 pub mod Standing
 pub mod Agrees

@@ -1,0 +1,215 @@
+-- Each call on sound bytes answers and leaves what the table without bytes does, and keeps them sound. Assumes nothing.
+use Prim.Native.Nat.{ℕ, _+_, _-_, _≤_, _<_}
+use mathlib.Core.Path.{_≡_, refl, _∙_, ap, sym}
+use mathlib.Core.Bool.{Bool, true, false, cond, _&&_}
+use mathlib.Core.Logic.{_⊎_, inl, inr, ⊎-elim}
+use mathlib.Core.List.{List}
+use native.Mathlib.Nat.{eq-zero-or-pos}
+use native.Mathlib.Omega.{arith}
+use borrow.Author.Tests.{lt-ltb, le-leb}
+use lib.Dec.{eqb, leb, ltb}
+use lib.ListN.{length}
+use Rattle.counts.specs.Limits.{commands, programs, sessions, ticketMost}
+use Rattle.counts.specs.Refusals.{notTheOne, outOfRange, tooLittleRoom, unsound}
+use Rattle.counts.specs.Result.{Result, refused, done}
+use Rattle.sessions.proofs.Did.{did}
+use Rattle.sessions.proofs.Laws.{halves, in-range, refused≢done, Search, miss, hit, search-find}
+use Rattle.sessions.proofs.Loops.{find-at}
+use Rattle.sessions.proofs.Parts.{parts-sound}
+use Rattle.sessions.proofs.SoundKept.{sound-kept}
+use Rattle.sessions.proofs.Stays.{isRefusal, refused-stays}
+use Rattle.sessions.specs.Find.{Found, none, at, orNone, find}
+use Rattle.sessions.specs.History.{Call, toPlace, toTakeUp, toAnswer, toCollect, placed, tookUp, answered, collected, step}
+use Rattle.sessions.specs.Sound.{sound}
+use Rattle.sessions.specs.Table.{within, isOpen, place, placeIn, isWaiting, turn, takeUp, takeHand, takeNext, names, answer, answerHand, isReady, reply, collect, collectFrom, afterPlace, afterTakeUp, afterAnswer, afterCollect}
+use Rattle.sessions.specs.declared.Answer.{Answer}
+use Rattle.session_table.proofs.Answering.{Answerable, answerable, answer-hand, answer-leaves as answering-leaves}
+use Rattle.session_table.proofs.Collecting.{Collectable, collectable, collect-leaves as collecting-leaves}
+use Rattle.session_table.proofs.Hands.{hand-empty, hand-full}
+use Rattle.session_table.proofs.Placing.{openIn, Placeable, placeable, place-leaves as placing-leaves}
+use Rattle.session_table.proofs.Turns.{nextIn, next-found, next-waits, next-leaves, again-leaves}
+use Rattle.session_table.proofs.Verdicts.{passed, passed-both}
+use Rattle.session_table.specs.Calls.{only, after, placing, placedAt, placedBytes, takingUp, takenAt, takenBytes, answering, answeredAs, answeredBytes, collecting, collectedAt, collectedBytes, readyIn, inHand}
+use Rattle.table_layout.proofs.Numbers.{length-putNumber}
+use Rattle.table_layout.specs.Layout.{tableBytes, maxAt, lastAt, markAt, handAt, number, putNumber, putHead, putEntry}
+use Rattle.table_search.proofs.Sounds.{sound-size, sound-table, sound-limited, stands, waits, hand-waits}
+use Rattle.table_slot.specs.Slots.{putSlot, slotAt}
+use Rattle.table_sound.specs.Bytes.{handOf, slotOf, abs, soundBytes}
+use Rattle.session_histories.proofs.Leaves.{place-leaves, take-leaves, collect-leaves}
+use Rattle.session_histories.proofs.Stored.{answer-leaves}
+use Rattle.session_histories.specs.Runs.{stepBytes}
+
+-- a result is done or refused
+data Ends {A : Type 0} (r : Result A) : Type 0 where
+  ends-done : only r ≡ done tt → Ends r
+  ends-refused : (k i : ℕ) → r ≡ refused k i → Ends r
+
+ends : {A : Type 0} (r : Result A) → Ends r
+ends (refused k i) = ends-refused k i refl
+ends (done x) = ends-done refl
+
+-- where the bytes are kept, so is what they hold
+kept : {A : Type 0} (r : Result A) (k i : ℕ) (b : List ℕ) (f : A → List ℕ) → r ≡ refused k i → after r b f ≡ b
+kept r k i b f q = rw q
+
+refusal-is : {A : Type 0} {r x : Result A} {k i : ℕ} → r ≡ x → r ≡ refused k i → isRefusal x ≡ true
+refusal-is p q = rw (sym p ∙ q)
+
+module _ (b : List ℕ) (e : soundBytes b ≡ true) where
+  pub placing-is : (p n : ℕ) → placing b p n ≡ place (abs b) p n .0
+  unfolding placing
+  placing-is p n = rw e
+
+  -- place
+  module _ (p n : ℕ) where
+    placed-done : (w : Placeable b p n) → abs (placedBytes b p n) ≡ place (abs b) p n .1
+    unfolding place placeIn
+    placed-done w =
+        let s = w .number-free in
+        let found : s ≡ orNone (openIn b) (number b maxAt) = sym (ap (λ f. orNone f (number b maxAt)) (w .found)) in
+        let r = halves (within 1 p programs) (within 1 n commands) (w .range) in
+        let rp = in-range 1 p programs (r .0) in
+        let rn = in-range 1 n commands (r .1) in
+        ap abs (sym (placing-leaves b p n w s found))
+        ∙ place-leaves b e s p n (number b lastAt + 1) (omega (arith, w .below, sound-table b e .max-high)) (rp .0) (rp .1) (rn .1) (omega (arith, w .room)) refl
+        ∙ rw (w .range, w .found, lt-ltb (number b lastAt) ticketMost (w .room))
+
+    place-does : abs (placedBytes b p n) ≡ place (abs b) p n .1
+    unfolding placedBytes step
+    place-does = go (ends (placing b p n))
+      where
+        go : Ends (placing b p n) → abs (placedBytes b p n) ≡ place (abs b) p n .1
+        go (ends-refused k i q) = ap abs (kept (placing b p n) k i b (placedAt b p n) q) ∙ sym (refused-stays (did (abs b) (toPlace p n)) (refusal-is (placing-is p n) q))
+        go (ends-done q) = placed-done (placeable b p n q)
+
+  -- take up
+  pub taking-is : takingUp b ≡ takeUp (abs b) .0
+  unfolding takingUp
+  taking-is = rw e
+
+  taken-again : only (takingUp b) ≡ done tt → (number b handAt ≡ 0 → ⊥) → abs (takenBytes b) ≡ takeUp (abs b) .1
+  unfolding takeUp takeHand
+  taken-again ok n = ap abs (sym (again-leaves b ok (number b handAt) refl n)) ∙ rw (hand-full b (number b handAt) refl n)
+
+  taken-next : only (takingUp b) ≡ done tt → number b handAt ≡ 0 → abs (takenBytes b) ≡ takeUp (abs b) .1
+  unfolding takeUp takeHand takeNext
+  taken-next ok z =
+      let i = orNone (nextIn b) (number b maxAt) in
+      let s = turn (abs b) i in
+      let w = waits b e s (next-waits b ok z i refl s refl) in
+      ap abs (sym (next-leaves b ok z i refl s refl))
+      ∙ take-leaves b e s (w .stands-there .below)
+      ∙ rw (hand-empty b (number b handAt) refl z, next-found b ok z i refl)
+
+  take-does : abs (takenBytes b) ≡ takeUp (abs b) .1
+  unfolding takenBytes step
+  take-does = go (ends (takingUp b))
+    where
+      go : Ends (takingUp b) → abs (takenBytes b) ≡ takeUp (abs b) .1
+      go (ends-refused k i q) = ap abs (kept (takingUp b) k i b (takenAt b) q) ∙ sym (refused-stays (did (abs b) toTakeUp) (refusal-is taking-is q))
+      go (ends-done q) = ⊎-elim (λ z. taken-next q z) (λ z. taken-again q (λ y. omega arith)) (eq-zero-or-pos (number b handAt))
+
+  -- answer
+  module _ (t c : ℕ) (a : Answer) where
+    pub answering-is : answering b t c a ≡ answer (abs b) t c a .0
+    unfolding answering
+    answering-is = rw e
+
+    stored : (w : Answerable b t c a) → afterAnswer (abs b) (inHand b) a ≡ answer (abs b) t c a .1
+    unfolding answer answerHand
+    stored w =
+        let n = answer-hand b t c a w (number b handAt) refl in
+        let f = hand-full b (number b handAt) refl n in
+        let q : w .number-held ≡ inHand b = cc (w .hand, f) in
+        let named : names (slotOf b (inHand b)) t c ≡ true = rw (← q) (w .named) in
+        sym (ap (λ g. answerHand (abs b) t c a g .1) f ∙ rw (named, w .dated, w .in-range))
+
+    answered-done : (w : Answerable b t c a) → abs (answeredBytes b t c a) ≡ answer (abs b) t c a .1
+    answered-done w =
+        let n = answer-hand b t c a w (number b handAt) refl in
+        let k = waits b e (inHand b) (hand-waits b e (inHand b) (hand-full b (number b handAt) refl n)) in
+        ap abs (sym (answering-leaves b t c a w (number b handAt) refl)) ∙ answer-leaves b e (inHand b) k a (w .dated) (w .in-range) ∙ stored w
+
+    answer-does : abs (answeredBytes b t c a) ≡ answer (abs b) t c a .1
+    unfolding answeredBytes step
+    answer-does = go (ends (answering b t c a))
+      where
+        go : Ends (answering b t c a) → abs (answeredBytes b t c a) ≡ answer (abs b) t c a .1
+        go (ends-refused k i q) = ap abs (kept (answering b t c a) k i b (λ r. answeredAs b a) q) ∙ sym (refused-stays (did (abs b) (toAnswer t c a)) (refusal-is answering-is q))
+        go (ends-done q) = answered-done (answerable b t c a q)
+
+  -- collect
+  module _ (p t room : ℕ) where
+    pub collecting-is : collecting b p t room ≡ collect (abs b) p t room .0
+    unfolding collecting
+    collecting-is = rw e
+
+    collected-done : (w : Collectable b p t room) → abs (collectedBytes b p t room) ≡ collect (abs b) p t room .1
+    unfolding collect collectFrom
+    collected-done w =
+        let s = w .number-ready in
+        let found : s ≡ readyIn b p t = sym (ap (λ f. orNone f (number b maxAt)) (w .found)) in
+        ap abs (sym (collecting-leaves b p t room w s found))
+        ∙ collect-leaves b e s (omega (arith, w .below, sound-table b e .max-high))
+        ∙ rw (w .range, w .found, le-leb (length (reply (slotOf b s))) room (w .room-enough))
+
+    collect-does : abs (collectedBytes b p t room) ≡ collect (abs b) p t room .1
+    unfolding collectedBytes step
+    collect-does = go (ends (collecting b p t room))
+      where
+        go : Ends (collecting b p t room) → abs (collectedBytes b p t room) ≡ collect (abs b) p t room .1
+        go (ends-refused k i q) = ap abs (kept (collecting b p t room) k i b (λ r. collectedAt b (readyIn b p t)) q) ∙ sym (refused-stays (did (abs b) (toCollect p t room)) (refusal-is collecting-is q))
+        go (ends-done q) = collected-done (collectable b p t room q)
+
+-- no call changes the length
+after-length : {A : Type 0} (r : Result A) (b : List ℕ) (f : A → List ℕ) → ((x : A) → length (f x) ≡ length b) → length (after r b f) ≡ length b
+after-length (refused k i) b f h = refl
+after-length (done x) b f h = h x
+
+cond-length : (t : Bool) (d b : List ℕ) → length d ≡ length b → length (cond t d b) ≡ length b
+cond-length true d b h = h
+cond-length false d b h = refl
+
+step-length : (b : List ℕ) (c : Call) → length (stepBytes b c .1) ≡ length b
+unfolding stepBytes placedBytes takenBytes answeredBytes collectedBytes putHead putSlot putEntry
+step-length b (toPlace p n) = after-length (placing b p n) b (placedAt b p n) (λ r. simp length-putNumber)
+step-length b toTakeUp = after-length (takingUp b) b (takenAt b)
+    (λ r. cond-length (eqb (number b handAt) 0) (putNumber (putNumber b markAt (r .0)) handAt (r .0 + 1)) b (simp length-putNumber))
+step-length b (toAnswer t c a) = after-length (answering b t c a) b (λ r. answeredAs b a) (λ r. simp length-putNumber)
+step-length b (toCollect p t room) = after-length (collecting b p t room) b (λ r. collectedAt b (readyIn b p t)) (λ r. simp length-putNumber)
+
+module _ (b : List ℕ) (c : Call) (e : soundBytes b ≡ true) where
+  step-answers : stepBytes b c .0 ≡ step (abs b) c .0
+  unfolding stepBytes step
+  step-answers = go c
+    where
+      go : (c : Call) → stepBytes b c .0 ≡ step (abs b) c .0
+      go (toPlace p n) = ap (placed p n) (placing-is b e p n)
+      go toTakeUp = ap tookUp (taking-is b e)
+      go (toAnswer t k a) = ap (answered t k a) (answering-is b e t k a)
+      go (toCollect p t room) = ap (collected p t room) (collecting-is b e p t room)
+
+  step-leaves : abs (stepBytes b c .1) ≡ step (abs b) c .1
+  unfolding stepBytes step
+  step-leaves = go c
+    where
+      go : (c : Call) → abs (stepBytes b c .1) ≡ step (abs b) c .1
+      go (toPlace p n) = place-does b e p n
+      go toTakeUp = take-does b e
+      go (toAnswer t k a) = answer-does b e t k a
+      go (toCollect p t room) = collect-does b e p t room
+
+  -- one call on sound bytes, and the same call on what they hold
+  pub record Does : Type 0 where
+    pub answers : stepBytes b c .0 ≡ step (abs b) c .0
+    pub leaves : abs (stepBytes b c .1) ≡ step (abs b) c .1
+    pub keeps : soundBytes (stepBytes b c .1) ≡ true
+
+  pub does : Does
+  unfolding soundBytes
+  does =
+      record {
+        answers = step-answers;
+        leaves = step-leaves;
+        keeps = rw (step-length b c ∙ sound-size b e, step-leaves, parts-sound (step (abs b) c .1) (sound-kept (did (abs b) c) (sound-table b e)));
+      }

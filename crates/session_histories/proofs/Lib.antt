@@ -1,0 +1,7 @@
+pub mod Frames
+pub mod Leaves
+pub mod Stored
+pub mod Fresh
+pub mod Does
+pub mod Same
+pub mod Claims

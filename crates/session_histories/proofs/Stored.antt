@@ -1,0 +1,154 @@
+-- What answering writes, as what the table without bytes does: one slot's entry and what is in hand. Assumes nothing.
+use Prim.Native.Nat.{ℕ, _+_, _-_, _*_, _≤_, _<_}
+use mathlib.Core.Path.{_≡_, refl, _∙_, ap, sym}
+use mathlib.Core.Bool.{Bool, true, _&&_}
+use mathlib.Core.Logic.{_⊎_, inl, inr, ⊎-elim}
+use mathlib.Core.List.{List, [], _∷_, _++_}
+use native.Mathlib.Omega.{arith}
+use native.Mathlib.Numerals.{add-one}
+use borrow.Author.Tests.{ne-eqb, leb-true}
+use lib.Dec.{leb}
+use lib.ListN.{length}
+use Rattle.calendar.proofs.Laws.{date-lt, time-lt}
+use Rattle.calendar.specs.Calendar.{realDate, realTime}
+use Rattle.counts.specs.Limits.{commands, sessions, classMost, codeMost}
+use Rattle.laws.proofs.Choose.{and-left, and-right}
+use Rattle.sessions.proofs.Loops.{first-same}
+use Rattle.sessions.specs.Find.{none, put, first}
+use Rattle.sessions.specs.Records.{isDated, isOutcome}
+use Rattle.sessions.specs.Table.{Slot, withAnswer, afterAnswer}
+use Rattle.sessions.specs.declared.Answer.{Answer}
+use Rattle.sessions.specs.declared.Outcome.{Outcome}
+use Rattle.sessions.specs.declared.Outcome.the-variants.{Processed, Error}
+use Rattle.table_layout.proofs.Numbers.{number-same, number-other, length-putNumber}
+use Rattle.table_layout.specs.Layout.{slotNumbers, tableBytes, headAt, entryAt, answeredAt, maxAt, lastAt, markAt, handAt, number, putNumber, headOf, putEntry, entryOf, outcomeOf, kindOf, codeOf}
+use Rattle.table_search.proofs.Sounds.{sound-size, Waits}
+use Rattle.table_slot.specs.Slots.{withEntry, slotAt, putSlot}
+use Rattle.table_sound.proofs.Slots.{slot-held}
+use Rattle.table_sound.specs.Bytes.{handOf, heldSlot, slotOf, abs, soundBytes}
+use Rattle.session_histories.proofs.Frames.{Outside, four-read, entry-others, slots-apart, slot-same}
+use Rattle.session_histories.proofs.Leaves.{state-same, slots-put}
+
+-- an outcome in range is read back
+outcome-back : (o : Outcome) → outcomeOf (kindOf o) (codeOf o) ≡ o
+unfolding outcomeOf kindOf codeOf
+outcome-back Processed = refl
+outcome-back (Error class code) = rw (ne-eqb (class + 1) 0 (λ z. omega arith)) (ap (λ k. Error k code) (omega arith))
+
+outcome-fits : (o : Outcome) → isOutcome o ≡ true → (kindOf o < 4294967296) × (codeOf o < 4294967296)
+unfolding isOutcome kindOf codeOf
+outcome-fits Processed e = (omega arith, omega arith)
+outcome-fits (Error class code) e =
+    let k = leb-true class classMost (and-left (leb class classMost) (leb code codeMost) e) in
+    let c = leb-true code codeMost (and-right (leb class classMost) (leb code codeMost) e) in
+    (omega arith, omega arith)
+
+date-fits : (a : Answer) → isDated a ≡ true → (a .date < 4294967296) × (a .time < 4294967296)
+unfolding isDated
+date-fits a e =
+    let d = date-lt (a .date) (and-left (realDate (a .date)) (realTime (a .time)) e) in
+    let t = time-lt (a .time) (and-right (realDate (a .date)) (realTime (a .time)) e) in
+    (omega arith, omega arith)
+
+module _ (b : List ℕ) (e : soundBytes b ≡ true) (s : ℕ) (w : Waits b e s) (a : Answer) (dated : isDated a ≡ true) (ranged : isOutcome (a .outcome) ≡ true) where
+  abbrev n : ℕ
+  n = number b (answeredAt s)
+
+  abbrev d1 : List ℕ
+  d1 = putEntry b s (n + 1) a
+
+  abbrev d2 : List ℕ
+  d2 = putNumber d1 (answeredAt s) (n + 1)
+
+  abbrev d : List ℕ
+  d = putNumber d2 handAt 0
+
+  size : length b ≡ tableBytes
+  size = sound-size b e
+
+  below : s < sessions
+  below = w .stands-there .below
+
+  few : n < commands
+  few = w .answers-few
+
+  length-d1 : length d1 ≡ length b
+  unfolding putEntry
+  length-d1 = simp length-putNumber
+
+  length-d2 : length d2 ≡ length b
+  length-d2 = length-putNumber d1 (answeredAt s) (n + 1) ∙ length-d1
+
+  -- what stands elsewhere stays
+  other : (j : ℕ) → Outside j (entryAt s (n + 1)) 4 → (j ≡ answeredAt s → ⊥) → (j ≡ handAt → ⊥) → number d j ≡ number b j
+  other j o m h = number-other d2 handAt 0 j h ∙ number-other d1 (answeredAt s) (n + 1) j m ∙ entry-others b s (n + 1) a j o
+
+  -- the slot's own numbers
+  answered-is : number d (answeredAt s) ≡ n + 1
+  answered-is =
+      number-other d2 handAt 0 (answeredAt s) (λ z. omega arith)
+      ∙ number-same d1 (answeredAt s) (n + 1) (omega (arith, size, length-d1, below)) (omega (arith, few))
+
+  in-entry : (j : ℕ) → entryAt s (n + 1) ≤ j → number d j ≡ number d1 j
+  in-entry j l = number-other d2 handAt 0 j (λ z. omega arith) ∙ number-other d1 (answeredAt s) (n + 1) j (λ z. omega arith)
+
+  entry-is : entryOf d s (n + 1) ≡ a
+  unfolding entryOf putEntry
+  entry-is =
+      let o = outcome-fits (a .outcome) ranged in
+      let t = date-fits a dated in
+      let f = four-read b (entryAt s (n + 1)) (kindOf (a .outcome)) (codeOf (a .outcome)) (a .date) (a .time) (omega (arith, size, below, few)) (o .0) (o .1) (t .0) (t .1) in
+      let e0 = in-entry (entryAt s (n + 1)) (omega arith) ∙ f .first-number in
+      let e1 = in-entry (entryAt s (n + 1) + 1) (omega arith) ∙ f .second-number in
+      let e2 = in-entry (entryAt s (n + 1) + 2) (omega arith) ∙ f .third-number in
+      let e3 = in-entry (entryAt s (n + 1) + 3) (omega arith) ∙ f .fourth-number in
+      rw (e0, e1, e2, e3, outcome-back (a .outcome))
+
+  entry-before : (i : ℕ) → i < n → entryOf d s (i + 1) ≡ entryOf b s (i + 1)
+  unfolding entryOf
+  entry-before i l =
+      let at : (j : ℕ) → entryAt s (i + 1) ≤ j → j < entryAt s (n + 1) → number d j ≡ number b j = λ j k h. other j (inl h) (λ z. omega arith) (λ z. omega arith) in
+      rw (
+        at (entryAt s (i + 1)) (omega arith) (omega arith),
+        at (entryAt s (i + 1) + 1) (omega arith) (omega arith),
+        at (entryAt s (i + 1) + 2) (omega arith) (omega arith),
+        at (entryAt s (i + 1) + 3) (omega arith) (omega arith),
+      )
+
+  answers-are : first (n + 1) (λ i. entryOf d s (i + 1)) ≡ first n (λ i. entryOf b s (i + 1)) ++ (a ∷ [])
+  unfolding first
+  answers-are =
+      ap (λ k. first k (λ i. entryOf d s (i + 1))) (add-one n)
+      ∙ rw (first-same n (λ i. entryOf d s (i + 1)) (λ i. entryOf b s (i + 1)) entry-before, entry-is)
+
+  head-is : (k : ℕ) → (k ≡ 2 → ⊥) → k < 4 → number d (headAt s + k) ≡ number b (headAt s + k)
+  head-is k m l = other (headAt s + k) (inl (omega arith)) (λ z. m (omega arith)) (λ z. omega arith)
+
+  stored-slot : slotOf d s ≡ withAnswer (slotOf b s) a
+  stored-slot =
+      let p : number d (headAt s) ≡ number b (headAt s) = other (headAt s) (inl (omega arith)) (λ z. omega arith) (λ z. omega arith) in
+      slot-held d s below (λ z. w .stands-there .program (sym p ∙ z))
+      ∙ rw (p, head-is 1 (λ z. omega arith) (omega arith), head-is 3 (λ z. omega arith) (omega arith), answered-is, answers-are, w .stands-there .held)
+
+  stored-leaves : abs d ≡ afterAnswer (abs b) s a
+  unfolding handOf
+  stored-leaves =
+      state-same
+      (other maxAt (inl (omega arith)) (λ z. omega arith) (λ z. omega arith))
+      (other lastAt (inl (omega arith)) (λ z. omega arith) (λ z. omega arith))
+      (other markAt (inl (omega arith)) (λ z. omega arith) (λ z. omega arith))
+      (rw (number-same d2 handAt 0 (omega (arith, size, length-d2)) (omega arith)))
+      (slots-put (slotOf b) (slotOf d) s (withAnswer (slotOf b s) a) stored-slot
+      (λ i m. slot-same b e d i (λ j l h. elsewhere i m j l h)))
+    where
+      elsewhere : (i : ℕ) → (i ≡ s → ⊥) → (j : ℕ) → headAt i ≤ j → j < headAt i + slotNumbers → number d j ≡ number b j
+      elsewhere i m j l h =
+          let o = slots-apart i s j m l h in
+          other j (⊎-elim (λ z. inl (omega (arith, few))) (λ z. inr (omega (arith, few))) o)
+          (λ z. ⊎-elim (λ y. omega arith) (λ y. omega arith) o)
+          (λ z. omega arith)
+
+  -- the words of the contract are these writes
+  pub answer-leaves : abs (putNumber (putSlot b s (withEntry (slotAt b s) a)) handAt 0) ≡ afterAnswer (abs b) s a
+  unfolding putSlot slotAt headOf
+  answer-leaves = stored-leaves
