@@ -5,3 +5,4 @@ pub mod Hands
 pub mod Turns
 pub mod Answering
 pub mod Collecting
+pub mod Untouched

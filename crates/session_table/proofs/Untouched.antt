@@ -1,0 +1,56 @@
+-- Answering changes one slot's entry and what is in hand, and no other byte. Assumes nothing.
+use Prim.Native.Nat.{ℕ, _+_, _-_, _*_, _≤_, _<_}
+use mathlib.Core.Path.{_≡_, refl, _∙_}
+use mathlib.Core.Logic.{_⊎_, inl, inr, ⊎-elim}
+use mathlib.Core.List.{List}
+use native.Mathlib.Omega.{arith}
+use lib.ListN.{getD}
+use Rattle.counts.specs.Result.{Result, refused, done}
+use Rattle.field.proofs.Numbers.{getD-putW}
+use Rattle.sessions.specs.declared.Answer.{Answer}
+use Rattle.table_layout.specs.Layout.{entryAt, answeredAt, handAt, number, putNumber, headOf, putEntry}
+use Rattle.table_slot.specs.Slots.{slotAt, putSlot}
+use Rattle.session_table.specs.Calls.{after, inHand, answering, answeredAs, answeredBytes}
+
+-- a byte outside the k numbers from at on
+abbrev pub Beyond : ℕ → ℕ → ℕ → Type 0
+Beyond i at k = (i < 4 * at) ⊎ (4 * (at + k) ≤ i)
+
+byte-stays : (b : List ℕ) (at v i : ℕ) → Beyond i at 1 → getD (putNumber b at v) i 0 ≡ getD b i 0
+unfolding putNumber
+byte-stays b at v i o = getD-putW 4 b (4 * at) v i (⊎-elim (λ l. inl l) (λ l. inr (omega arith)) o)
+
+one-of : (i at k : ℕ) {m : ℕ} → Beyond i at m → k < m → Beyond i (at + k) 1
+one-of i at k o l = ⊎-elim (λ z. inl (omega arith)) (λ z. inr (omega arith)) o
+
+entry-stays : (b : List ℕ) (s c : ℕ) (a : Answer) (i : ℕ) → Beyond i (entryAt s c) 4 → getD (putEntry b s c a) i 0 ≡ getD b i 0
+unfolding putEntry
+entry-stays b s c a i o =
+    byte-stays _ (entryAt s c + 3) _ i (one-of i (entryAt s c) 3 o (omega arith))
+    ∙ byte-stays _ (entryAt s c + 2) _ i (one-of i (entryAt s c) 2 o (omega arith))
+    ∙ byte-stays _ (entryAt s c + 1) _ i (one-of i (entryAt s c) 1 o (omega arith))
+    ∙ byte-stays b (entryAt s c) _ i (⊎-elim (λ z. inl z) (λ z. inr (omega arith)) o)
+
+module _ (b : List ℕ) (t c : ℕ) (a : Answer) where
+  -- the session in hand, and its lowest unanswered command
+  abbrev session : ℕ
+  session = inHand b
+
+  abbrev command : ℕ
+  command = number b (answeredAt session) + 1
+
+  stored-stays : (i : ℕ) → Beyond i (entryAt session command) 4 → Beyond i (answeredAt session) 1 → Beyond i handAt 1
+      → getD (answeredAs b a) i 0 ≡ getD b i 0
+  unfolding putSlot slotAt headOf
+  stored-stays i o n h =
+      byte-stays _ handAt 0 i h ∙ byte-stays _ (answeredAt session) command i n ∙ entry-stays b session command a i o
+
+  -- "Answering changes one slot's entry and the in-hand mark, nothing else."
+  pub answering-changes-nothing-else : (i : ℕ) → Beyond i (entryAt session command) 4 → Beyond i (answeredAt session) 1 → Beyond i handAt 1
+      → getD (answeredBytes b t c a) i 0 ≡ getD b i 0
+  unfolding answeredBytes
+  answering-changes-nothing-else i o n h = go (answering b t c a)
+    where
+      go : (r : Result (Unit {0})) → getD (after r b (λ x. answeredAs b a)) i 0 ≡ getD b i 0
+      go (refused k p) = refl
+      go (done x) = stored-stays i o n h
