@@ -1,7 +1,7 @@
 -- Demand 2 for job files: `readJob`, which the contract of `job::read_job` cites, gives an answer exactly when document 01 says so.
 -- Assumes nothing.
 use Prim.Native.Nat.{ℕ, _≤_, _<_}
-use mathlib.Core.Path.{_≡_, refl, subst}
+use mathlib.Core.Path.{_≡_, refl, _∙_, subst}
 use mathlib.Core.Bool.{Bool, true, false, cond}
 use mathlib.Core.List.{List}
 use mathlib.Core.Logic.{_↔_, _⊎_, inl, inr}
@@ -17,6 +17,11 @@ use Rattle.grammar.specs.Rows.Says.{file, three, four-token, four-end, five, si
 use Rattle.grammar.proofs.Verdicts.{reader-says, says-reader}
 use Rattle.item.specs.Tokens.{line}
 use Rattle.job.specs.Job.{onRoom, readJob}
+use Rattle.item.proofs.Lines.{line-tokens}
+use Rattle.item.proofs.Ends.{end-is-length}
+use Rattle.job.specs.Statement.{Tiled}
+use Rattle.job.proofs.Bridge.{by-statements}
+use Rattle.job_claims.proofs.Tiles.{tiles}
 use Rattle.job_claims.specs.Verdict.{Verdict, Taken, Crowded}
 use Rattle.job_claims.specs.Verdict.Verdict.{too-long, broken, no-room, fits}
 
@@ -100,3 +105,13 @@ module _ (s : List ℕ) (room : ℕ) where
     where
       from : Verdict s room (refused tooManyStatements p) → (length s ≤ fileBytes) × Six (line s .tokens) p
       from (broken l (six r)) = (l, r)
+
+  -- Each statement of a taken file is read on its own from its offset, and they tile the file.
+  pub statement-of-file : (os : List ℕ) → readJob s room ≡ done os → Tiled s 0 os
+  statement-of-file os e =
+      let t : Taken s room os = taken-exactly os .0 e in
+      tiles s (t .short) os (by-statements s (line-tokens s) ∙ says-reader (file (t .whole)))
+
+  -- The place of a refusal for the end of the file is the file's length.
+  pub end-is-last : (p : ℕ) → FourEnd (line s .tokens) (line s .last) p → p ≡ length s
+  end-is-last p r = end-is-length s p (r .1)
