@@ -4,9 +4,10 @@ use mathlib.Core.Path.{_≡_, refl, sym, _∙_, ap, subst}
 use mathlib.Core.Logic.{_⊎_, inl, inr}
 use mathlib.Core.Bool.{Bool, true, false, cond}
 use mathlib.Core.List.{List, [], _∷_, _++_}
-use Prim.Native.Nat.{ℕ}
+use Prim.Native.Nat.{ℕ, _<_}
 use native.Mathlib.Omega.{arith}
 use borrow.Author.Tests.{eqb-true}
+use lib.Dec.{lit<}
 use Rattle.grammar.specs.Grammar.{Class, Point, Edge, next, look, step, walk, isClass, isPoint, classNo, classOf, pointNo, pointOf}
 use Rattle.grammar.specs.Grammar.Class.{JOB, RESPONSE, UPLOAD, DOWNLOAD, GETINFO, ABORT, REPORT, EVENT, START, ACTIVE, IMMEDIATE, reserved, name, TIME≥, number, date, unrealDate, time, unrealTime, string, operator, semicolon}
 use Rattle.grammar.specs.Grammar.Point.{first, between, statement, jobName, jobResponse, jobFile, moveFile, moveSource, moveStart, startKind, startTime, startDate, startOperator, startValue, infoFile, abortKind, abortName, ending, done, dead}
@@ -43,6 +44,31 @@ class-again unrealTime = refl
 class-again string = refl
 class-again operator = refl
 class-again semicolon = refl
+
+-- there are 22 classes
+pub class-below : (c : Class) → classNo c < 22
+class-below JOB = lit< tt
+class-below RESPONSE = lit< tt
+class-below UPLOAD = lit< tt
+class-below DOWNLOAD = lit< tt
+class-below GETINFO = lit< tt
+class-below ABORT = lit< tt
+class-below REPORT = lit< tt
+class-below EVENT = lit< tt
+class-below START = lit< tt
+class-below ACTIVE = lit< tt
+class-below IMMEDIATE = lit< tt
+class-below reserved = lit< tt
+class-below name = lit< tt
+class-below TIME≥ = lit< tt
+class-below number = lit< tt
+class-below date = lit< tt
+class-below unrealDate = lit< tt
+class-below time = lit< tt
+class-below unrealTime = lit< tt
+class-below string = lit< tt
+class-below operator = lit< tt
+class-below semicolon = lit< tt
 
 point-again : (q : Point) → pointOf (pointNo q) ≡ q
 point-again first = refl

@@ -93,3 +93,10 @@ enough (suc n) s i l = on-item s i (λ b. lineFrom (suc n) s b) (λ t b e. enoug
 pub line-tokens : (s : List ℕ) → Tokens s 0 (line s .tokens) (line s .last)
 unfolding line
 line-tokens s = enough (length s) s 0 (omega arith)
+
+-- a token stands within the file
+pub inside : (s : List ℕ) (i : ℕ) (t : Placed) (b : ℕ) → nextItem s i ≡ item t b → t .place < length s
+unfolding nextItem nextToken
+inside s i t b e =
+    let h : (t .place ≡ blankEnd false s i) × Span s (blankEnd false s i) b = ahead-item s (blankEnd false s i) (tokenAt s (blankEnd false s i)) (token.ahead s (blankEnd false s i)) t b e in
+    omega arith

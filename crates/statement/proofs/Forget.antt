@@ -3,13 +3,16 @@ use Prim.Native.Nat.{ℕ}
 use mathlib.Core.Path.{_≡_, refl, sym, _∙_, ap, ap₂}
 use mathlib.Core.Bool.{Bool, true, false, true≢false, cond, _&&_, and-false}
 use mathlib.Core.List.{List, [], _∷_}
+use native.Mathlib.Omega.{arith}
+use borrow.Author.Tests.{ne-eqb}
 use lib.Dec.{eqb}
 use Rattle.counts.specs.Refusals.{noToken, unexpected, notReal, refusal}
 use Rattle.token.specs.declared.Operator.{Operator}
 use Rattle.grammar.specs.Grammar.{Class, classNo, isClass, shape}
 use Rattle.grammar.specs.Grammar.Class.{JOB, RESPONSE, UPLOAD, DOWNLOAD, GETINFO, ABORT, REPORT, EVENT, START, ACTIVE, IMMEDIATE, reserved, name, TIME≥, number, date, unrealDate, time, unrealTime, string, operator, semicolon}
 use Rattle.grammar.specs.Grammar.Point.{statement}
-use Rattle.item.specs.Tokens.{Next, nextItem}
+use Rattle.grammar.proofs.Points.{class-below}
+use Rattle.item.specs.Tokens.{Next}
 use Rattle.item.specs.Tokens.Next.{item, ended, none}
 use Rattle.item.specs.Items.{endNo, noneNo, itemAt}
 use Rattle.item.specs.declared.Item.{Item}
@@ -49,52 +52,10 @@ abbrev Foreign : ℕ → Type 0
 Foreign n = (c : Class) → eqb n (classNo c) ≡ false
 
 end-foreign : Foreign endNo
-end-foreign JOB = refl
-end-foreign RESPONSE = refl
-end-foreign UPLOAD = refl
-end-foreign DOWNLOAD = refl
-end-foreign GETINFO = refl
-end-foreign ABORT = refl
-end-foreign REPORT = refl
-end-foreign EVENT = refl
-end-foreign START = refl
-end-foreign ACTIVE = refl
-end-foreign IMMEDIATE = refl
-end-foreign reserved = refl
-end-foreign name = refl
-end-foreign TIME≥ = refl
-end-foreign number = refl
-end-foreign date = refl
-end-foreign unrealDate = refl
-end-foreign time = refl
-end-foreign unrealTime = refl
-end-foreign string = refl
-end-foreign operator = refl
-end-foreign semicolon = refl
+end-foreign c = ne-eqb endNo (classNo c) (λ e. omega (arith, class-below c))
 
 none-foreign : Foreign noneNo
-none-foreign JOB = refl
-none-foreign RESPONSE = refl
-none-foreign UPLOAD = refl
-none-foreign DOWNLOAD = refl
-none-foreign GETINFO = refl
-none-foreign ABORT = refl
-none-foreign REPORT = refl
-none-foreign EVENT = refl
-none-foreign START = refl
-none-foreign ACTIVE = refl
-none-foreign IMMEDIATE = refl
-none-foreign reserved = refl
-none-foreign name = refl
-none-foreign TIME≥ = refl
-none-foreign number = refl
-none-foreign date = refl
-none-foreign unrealDate = refl
-none-foreign time = refl
-none-foreign unrealTime = refl
-none-foreign string = refl
-none-foreign operator = refl
-none-foreign semicolon = refl
+none-foreign c = ne-eqb noneNo (classNo c) (λ e. omega (arith, class-below c))
 
 no-class : (t : Item) (n : ℕ) → t .class ≡ n → Foreign n → (bs : List values.Branch) (r : StatementRead) → values.pick t bs r ≡ r
 no-class t n e f [] r = refl

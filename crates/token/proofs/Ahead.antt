@@ -9,13 +9,13 @@ use lib.Dec.{ltb, leb, eqb}
 use lib.ListN.{length, getD, drop, length-drop, List·getD-eq-default}
 use lib.Seq.{drop-cons}
 use Rattle.counts.specs.Limits.{wordBytes, textBytes, numberDigits}
-use Rattle.laws.proofs.Choose.{and-right}
+use Rattle.laws.proofs.Choose.{and-left, and-right}
 use Rattle.field.specs.Bytes.{ascii, hasAt}
 use Rattle.field.proofs.Same.{has-room}
 use Rattle.scan.specs.Kinds.{isDigit, isLetter, isWordByte, isNumericByte, isTextByte}
 use Rattle.scan.specs.Run.{run, runEnd, blankEnd}
 use Rattle.scan.proofs.Settled.{Onward, onward}
-use Rattle.token.specs.Token.{contentEnd, wordAt, textAt, isTimeAt, isNumberAt, shapedAt, numericAt, signAt, tokenAt, nextToken, Short}
+use Rattle.token.specs.Token.{contentEnd, wordAt, textAt, isTextAt, isTimeAt, isNumberAt, shapedAt, numericAt, signAt, tokenAt, nextToken, Short}
 use Rattle.token.specs.declared.Operator.{Operator}
 use Rattle.token.specs.declared.Why.{Why}
 use Rattle.token.specs.declared.Token.{Token}
@@ -212,3 +212,11 @@ number-within (a-number r n) = record { ahead = r .ahead; inside = r .inside; sh
 pub number-inside : (s : List ℕ) (i a b : ℕ) (r : Token) → r ≡ nextToken s i → r ≡ Number a b → Short s a b
 unfolding nextToken
 number-inside s i a b r d e = number-within (rw (sym d ∙ e) at (ahead s (blankEnd false s i)))
+
+-- a string's opening quote stands within the file
+pub text-inside : (s : List ℕ) (i : ℕ) → isTextAt s i ≡ true → i < length s
+unfolding isTextAt
+text-inside s i e =
+    in-range s i (λ b. eqb b 34) i refl
+    (and-left (eqb (getD s i 0) 34) (leb (contentEnd s i - (i + 1)) textBytes)
+    (and-left (eqb (getD s i 0) 34 && leb (contentEnd s i - (i + 1)) textBytes) (eqb (getD s (contentEnd s i) 0) 34) e))

@@ -1,0 +1,4 @@
+pub mod Loops
+pub mod Fills
+pub mod Bridge
+pub mod Answers

@@ -1,0 +1,94 @@
+-- The laws of the loop over statements: what one turn does. Assumes nothing.
+use Prim.Native.Nat.{ℕ, suc, _+_, _-_, _≤_, _<_}
+use mathlib.Core.Path.{_≡_, refl, sym, _∙_, ap, subst}
+use mathlib.Core.Bool.{Bool, true, false, cond}
+use mathlib.Core.List.{List, [], _∷_, _++_}
+use native.Mathlib.Omega.{arith}
+use native.Mathlib.Numerals.{add-one}
+use borrow.Author.Tests.{eq-eqb}
+use lib.Dec.{eqb, ltb}
+use lib.ListN.{length, take, set}
+use lib.Seq.{length-take-le, take-suc-set}
+use borrow.Author.Tests.{ltb-true, ltb-false}
+use Rattle.counts.specs.Limits.{statements}
+use Rattle.counts.specs.Refusals.{noToken, unexpected, tooManyStatements}
+use Rattle.counts.specs.Result.Result.{refused, done}
+use Rattle.counts.specs.declared.Refusal.{Refusal}
+use Rattle.grammar.specs.Reading.{Answer}
+use Rattle.item.specs.Tokens.{Next, nextItem}
+use Rattle.item.specs.Tokens.Next.{item, ended, none}
+use Rattle.item.specs.Items.{endNo, noneNo, itemAt}
+use Rattle.item.specs.declared.Item.{Item}
+use Rattle.item.proofs.Lines.{inside}
+use Rattle.item.proofs.Shows.{Shows, shows}
+use Rattle.item.proofs.Shows.Shows.{a-token, the-end, no-token}
+use Rattle.job.specs.Loop.{stop, stepInto, stepOf, onStep, jobLoop}
+use Rattle.job.specs.declared.Step.{Step}
+use Rattle.job.specs.declared.Step.the-variants.{Over, Stop, On}
+
+over≢on : {n : ℕ} → Over ≡ On n → ⊥
+over≢on e = let z : _≡_ {A = ℕ} 0 1 = cc in omega arith
+
+stop≢on : {r : Refusal} {n : ℕ} → Stop r ≡ On n → ⊥
+stop≢on e = let z : _≡_ {A = ℕ} 0 1 = cc in omega arith
+
+-- after 64 statements no statement is read
+full-stops : (s : List ℕ) (t : Item) (n : ℕ) → stepOf s statements t ≡ On n → ⊥
+unfolding stepOf
+full-stops s t n e = go (eqb (t .class) endNo) (eqb (t .class) noneNo) e
+  where
+    go : (a b : Bool) → cond a Over (cond b (stop noToken t) (stop tooManyStatements t)) ≡ On n → ⊥
+    go true b x = over≢on x
+    go false true x = stop≢on x
+    go false false x = stop≢on x
+
+ended-stops : (s : List ℕ) (k : ℕ) (t : Item) (n : ℕ) → t .class ≡ endNo → stepOf s k t ≡ On n → ⊥
+unfolding stepOf
+ended-stops s k t n c e = go (eqb k 0) (rw c at e)
+  where
+    go : (a : Bool) → cond a (stop unexpected t) Over ≡ On n → ⊥
+    go true x = stop≢on x
+    go false x = over≢on x
+
+none-stops : (s : List ℕ) (k : ℕ) (t : Item) (n : ℕ) → t .class ≡ noneNo → stepOf s k t ≡ On n → ⊥
+unfolding stepOf
+none-stops s k t n c e = stop≢on (rw c at e)
+
+-- a statement is read where a token stands
+on-token : (s : List ℕ) (k at : ℕ) (t : Item) (n : ℕ) → stepOf s k t ≡ On n → (x : Next) → nextItem s at ≡ x → Shows t x → t .place < length s
+on-token s k at t n e x i (the-end c p) = absurd (ended-stops s k t n c e)
+on-token s k at t n e x i (no-token c p) = absurd (none-stops s k t n c e)
+on-token s k at t n e x i (a-token {u = u} {b = b} c p q) = subst (λ (m : ℕ). m < length s) (sym p) (inside s at u b i)
+
+module _ (s places : List ℕ) (k at : ℕ) (e : Answer) (inv : jobLoop s (statements + 1 - k) (take k places) at ≡ e) (few : k ≤ statements) (long : length places ≡ statements) (t : Item) (tok : t ≡ itemAt 0 s at) (r : Step) (is : r ≡ stepOf s k t) where
+  turn : onStep r (take k places) (t .place) (jobLoop s (statements + 1 - (k + 1))) ≡ e
+  unfolding jobLoop
+  turn =
+      let m : statements + 1 - k ≡ suc (statements + 1 - (k + 1)) = omega arith in
+      let l : length (take k places) ≡ k = length-take-le k places (omega arith) in
+      let f = rw (m, l, ← tok, ← is) at inv in
+      f
+
+  pub all-read : r ≡ Over → done (take k places) ≡ e
+  all-read p = rw p at turn
+
+  pub stopped : (f : Refusal) → r ≡ Stop f → refused (f .number) (f .place) ≡ e
+  stopped f p = rw p at turn
+
+  pub room : (n : ℕ) → r ≡ On n → k < statements
+  room n p = go (ltb k statements) refl
+    where
+      go : (b : Bool) → ltb k statements ≡ b → k < statements
+      go true l = ltb-true _ _ l
+      go false l =
+          let h : statements ≤ k = ltb-false _ _ l in
+          let q : k ≡ statements = omega arith in
+          absurd (full-stops s t n (ap (λ (j : ℕ). stepOf s j t) (sym q) ∙ sym is ∙ p))
+
+  pub within : (n : ℕ) → r ≡ On n → t .place < length s
+  within n p = on-token s k at t n (sym is ∙ p) (nextItem s at) refl (rw tok (shows s at))
+
+  pub again : (n : ℕ) → r ≡ On n → jobLoop s (statements + 1 - (k + 1)) (take (k + 1) (set places k (t .place))) n ≡ e
+  again n p =
+      let l : k < length places = omega (arith, room n p) in
+      rw (add-one k, take-suc-set places k (t .place) l) (rw (p, add-one k) at turn)

@@ -1,0 +1,56 @@
+-- The loop over a file's statements, as code has it: what one token between statements leads to, and the rest of the file after it.
+use Prim.Native.Nat.{ℕ, zero, suc}
+use mathlib.Core.Bool.{cond}
+use mathlib.Core.List.{List, [], _∷_, _++_}
+use lib.Dec.{eqb}
+use lib.ListN.{length, take}
+use Rattle.counts.specs.Limits.{statements}
+use Rattle.counts.specs.Refusals.{noToken, unexpected, tooManyStatements, refusal}
+use Rattle.counts.specs.Result.Result.{refused, done}
+use Rattle.counts.specs.declared.Refusal.{Refusal}
+use Rattle.grammar.specs.Grammar.{classNo}
+use Rattle.grammar.specs.Grammar.Class.{JOB}
+use Rattle.grammar.specs.Reading.{Answer}
+use Rattle.item.specs.Items.{endNo, noneNo, itemAt}
+use Rattle.item.specs.declared.Item.{Item}
+use Rattle.statement.specs.Statement.{statementOf}
+use Rattle.statement.specs.declared.StatementRead.{StatementRead}
+use Rattle.statement.specs.declared.StatementRead.the-variants.{Is, Refused}
+use Rattle.job.specs.declared.Step.{Step}
+use Rattle.job.specs.declared.Step.the-variants.{Over, Stop, On}
+use Rattle.job.specs.declared.Found.{Found}
+
+abbrev pub stop : ℕ → Item → Step
+stop n t = Stop (refusal n (t .place))
+
+abbrev pub stepRead : StatementRead → Step
+stepRead (Is x next) = On next
+stepRead (Refused r) = Stop r
+
+-- "the first JOB and no other": a statement that begins with t, after k statements
+unfoldable pub stepInto : List ℕ → ℕ → Item → Step
+stepInto s k t =
+    cond (eqb k 0)
+    (cond (eqb (t .class) (classNo JOB)) (stepRead (statementOf 0 s t)) (stop unexpected t))
+    (cond (eqb (t .class) (classNo JOB)) (stop unexpected t) (stepRead (statementOf 0 s t)))
+
+-- what stands after k statements: the file's end, no token, a token too many, or one more statement
+unfoldable pub stepOf : List ℕ → ℕ → Item → Step
+stepOf s k t =
+    cond (eqb (t .class) endNo) (cond (eqb k 0) (stop unexpected t) Over)
+    (cond (eqb (t .class) noneNo) (stop noToken t) (cond (eqb k statements) (stop tooManyStatements t) (stepInto s k t)))
+
+abbrev pub onStep : Step → List ℕ → ℕ → (List ℕ → ℕ → Answer) → Answer
+onStep Over os place rest = done os
+onStep (Stop r) os place rest = refused (r .number) (r .place)
+onStep (On next) os place rest = rest (os ++ (place ∷ [])) next
+
+-- the rest of a file from the place at on, after statements that begin at os; `left` bounds how many tokens are looked at between statements
+unfoldable pub jobLoop : List ℕ → ℕ → List ℕ → ℕ → Answer
+jobLoop s zero os at = refused tooManyStatements at
+jobLoop s (suc left) os at =
+    onStep (stepOf s (length os) (itemAt 0 s at)) os (itemAt 0 s at .place) (jobLoop s left)
+
+-- what was found: the offsets of the statements, or the refusal
+abbrev pub foundOf : Found → Answer
+foundOf f = cond (f .whole) (done (take (f .count) (f .places))) (refused (f .refusal .number) (f .refusal .place))

@@ -1,0 +1,117 @@
+-- Demand 2 for job files: `readJob`, which the contract of `job::read_job` cites, gives an answer exactly when document 01 says so.
+-- Assumes nothing.
+use Prim.Native.Nat.{ℕ, _≤_, _<_}
+use mathlib.Core.Path.{_≡_, refl, _∙_, subst}
+use mathlib.Core.Bool.{Bool, true, false, cond}
+use mathlib.Core.List.{List}
+use mathlib.Core.Logic.{_↔_, _⊎_, inl, inr}
+use borrow.Author.Tests.{leb-true, leb-false, le-leb, lt-leb}
+use lib.Dec.{leb}
+use lib.ListN.{length}
+use Rattle.counts.specs.Limits.{fileBytes}
+use Rattle.counts.specs.Refusals.{fileTooLong, tooFewPlaces, noToken, unexpected, notReal, tooManyStatements}
+use Rattle.counts.specs.Result.Result.{refused, done}
+use Rattle.grammar.specs.Reading.{Answer, read}
+use Rattle.grammar.specs.Rows.{Three, FourToken, FourEnd, Five, Six, Says}
+use Rattle.grammar.specs.Rows.Says.{file, three, four-token, four-end, five, six}
+use Rattle.grammar.proofs.Verdicts.{reader-says, says-reader}
+use Rattle.item.specs.Tokens.{line}
+use Rattle.job.specs.Job.{onRoom, readJob}
+use Rattle.item.proofs.Lines.{line-tokens}
+use Rattle.item.proofs.Ends.{end-is-length}
+use Rattle.job.specs.Statement.{Tiled}
+use Rattle.job.proofs.Bridge.{by-statements}
+use Rattle.job_claims.proofs.Tiles.{tiles}
+use Rattle.job_claims.specs.Verdict.{Verdict, Taken, Crowded}
+use Rattle.job_claims.specs.Verdict.Verdict.{too-long, broken, no-room, fits}
+
+module _ (s : List ℕ) (room : ℕ) where
+  judged-room : length s ≤ fileBytes → (v : Answer) → Says (line s .tokens) (line s .last) v → Verdict s room (onRoom room v)
+  judged-room l (refused n p) y = broken l y
+  judged-room l (done os) y = go (leb (length os) room) refl
+    where
+      go : (b : Bool) → leb (length os) room ≡ b → Verdict s room (cond b (done os) (refused tooFewPlaces 0))
+      go true e = fits l y (leb-true _ _ e)
+      go false e = no-room l y (leb-false _ _ e)
+
+  -- every file has the verdict that the reader gives
+  pub judged : Verdict s room (readJob s room)
+  unfolding readJob
+  judged = go (leb (length s) fileBytes) refl
+    where
+      go : (b : Bool) → leb (length s) fileBytes ≡ b → Verdict s room (cond b (onRoom room (read (line s .tokens) (line s .last))) (refused fileTooLong 0))
+      go true e = judged-room (leb-true _ _ e) (read (line s .tokens) (line s .last)) (reader-says (line s .tokens) (line s .last))
+      go false e = too-long (leb-false _ _ e)
+
+  -- and no other
+  pub only : (v : Answer) → Verdict s room v → readJob s room ≡ v
+  unfolding readJob
+  only v (too-long l) = rw (lt-leb _ _ l)
+  only v (broken l y) = rw (le-leb _ _ l, says-reader y)
+  only v (no-room l y r) = rw (le-leb _ _ l, says-reader y, lt-leb _ _ r)
+  only v (fits l y r) = rw (le-leb _ _ l, says-reader y, le-leb _ _ r)
+
+  given : {v : Answer} → readJob s room ≡ v → Verdict s room v
+  given e = subst (λ (v : Answer). Verdict s room v) e judged
+
+  -- A job file is taken when, and only when, it obeys the grammar and limits and the table has room, and its offsets are those of its
+  -- statements.
+  pub taken-exactly : (os : List ℕ) → readJob s room ≡ done os ↔ Taken s room os
+  taken-exactly os = (λ e. from (given e), λ t. only (done os) (fits (t .short) (file (t .whole)) (t .fits)))
+    where
+      from : Verdict s room (done os) → Taken s room os
+      from (fits l (file w) r) = record { short = l; whole = w; fits = r }
+
+  -- 1
+  pub one-exactly : (p : ℕ) → readJob s room ≡ refused fileTooLong p ↔ (fileBytes < length s) × p ≡ 0
+  one-exactly p = (λ e. from p (given e), λ h. rw (h .1) (only (refused fileTooLong 0) (too-long (h .0))))
+    where
+      from : (p : ℕ) → Verdict s room (refused fileTooLong p) → (fileBytes < length s) × p ≡ 0
+      from p (too-long l) = (l, refl)
+
+  -- 2 only for a legal file
+  pub two-exactly : (p : ℕ) → readJob s room ≡ refused tooFewPlaces p ↔ ((os : List ℕ) × Crowded s room os) × p ≡ 0
+  two-exactly p = (λ e. from p (given e), λ h. rw (h .1) (only (refused tooFewPlaces 0) (no-room (h .0 .1 .short) (file (h .0 .1 .whole)) (h .0 .1 .crowded))))
+    where
+      from : (p : ℕ) → Verdict s room (refused tooFewPlaces p) → ((os : List ℕ) × Crowded s room os) × p ≡ 0
+      from p (no-room {os = os} l (file w) r) = ((os, record { short = l; whole = w; crowded = r }), refl)
+
+  -- 3 to 6 at p exactly when 01's row holds there, all before it is in order, and no number that goes first holds there
+  pub three-exactly : (p : ℕ) → readJob s room ≡ refused noToken p ↔ (length s ≤ fileBytes) × Three (line s .tokens) (line s .last) p
+  three-exactly p = (λ e. from (given e), λ h. only (refused noToken p) (broken (h .0) (three (h .1))))
+    where
+      from : Verdict s room (refused noToken p) → (length s ≤ fileBytes) × Three (line s .tokens) (line s .last) p
+      from (broken l (three r)) = (l, r)
+
+  pub four-exactly : (p : ℕ) → readJob s room ≡ refused unexpected p ↔ (length s ≤ fileBytes) × (FourToken (line s .tokens) p ⊎ FourEnd (line s .tokens) (line s .last) p)
+  four-exactly p = (λ e. from (given e), λ h. only (refused unexpected p) (broken (h .0) (to (h .1))))
+    where
+      from : Verdict s room (refused unexpected p) → (length s ≤ fileBytes) × (FourToken (line s .tokens) p ⊎ FourEnd (line s .tokens) (line s .last) p)
+      from (broken l (four-token r)) = (l, inl r)
+      from (broken l (four-end r)) = (l, inr r)
+
+      to : FourToken (line s .tokens) p ⊎ FourEnd (line s .tokens) (line s .last) p → Says (line s .tokens) (line s .last) (refused unexpected p)
+      to (inl r) = four-token r
+      to (inr r) = four-end r
+
+  pub five-exactly : (p : ℕ) → readJob s room ≡ refused notReal p ↔ (length s ≤ fileBytes) × Five (line s .tokens) p
+  five-exactly p = (λ e. from (given e), λ h. only (refused notReal p) (broken (h .0) (five (h .1))))
+    where
+      from : Verdict s room (refused notReal p) → (length s ≤ fileBytes) × Five (line s .tokens) p
+      from (broken l (five r)) = (l, r)
+
+  pub six-exactly : (p : ℕ) → readJob s room ≡ refused tooManyStatements p ↔ (length s ≤ fileBytes) × Six (line s .tokens) p
+  six-exactly p = (λ e. from (given e), λ h. only (refused tooManyStatements p) (broken (h .0) (six (h .1))))
+    where
+      from : Verdict s room (refused tooManyStatements p) → (length s ≤ fileBytes) × Six (line s .tokens) p
+      from (broken l (six r)) = (l, r)
+
+  -- Each statement of a taken file is read on its own from its offset, and they tile the file.
+  pub statement-of-file : (os : List ℕ) → readJob s room ≡ done os → Tiled s 0 os
+  statement-of-file os e =
+      let t : Taken s room os = taken-exactly os .0 e in
+      tiles s (t .short) os (by-statements s (line-tokens s) ∙ says-reader (file (t .whole)))
+
+  -- The place of a refusal for the end of the file is the file's length.
+  pub end-is-last : (p : ℕ) → FourEnd (line s .tokens) (line s .last) p → p ≡ length s
+  end-is-last p r = end-is-length s p (r .1)
