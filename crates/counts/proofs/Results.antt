@@ -1,5 +1,5 @@
 -- Laws of `Result`: what is known of a call that was not refused. Assumes nothing.
-use Prim.Native.Nat.{ℕ}
+use Prim.Native.Nat.{ℕ, suc}
 use mathlib.Core.Path.{_≡_, refl}
 use mathlib.Core.Bool.{Bool, true, false, cond}
 use native.Mathlib.Omega.{arith}
@@ -18,3 +18,8 @@ module _ {A : Type 0} where
 -- a refusal is its number and its place
 pub same-refusal : {r t : Refusal} → r .number ≡ t .number → r .place ≡ t .place → r ≡ t
 same-refusal p q = λ i. record { number = p i; place = q i }
+
+-- a refusal number that is 0 came by the first way
+pub first-way : (t : Bool) (x k : ℕ) → cond t x (suc k) ≡ 0 → (t ≡ true) × (x ≡ 0)
+first-way true x k h = (refl, h)
+first-way false x k h = absurd (omega arith)

@@ -1,20 +1,18 @@
 -- Writing a name: what a passed test gives, and what the contract asks where it is passed and where it is not. Assumes nothing.
-use Prim.Native.Nat.{ℕ, suc, _+_, _≤_, _<_}
-use mathlib.Core.Path.{_≡_, refl, sym, ap, _∙_}
-use mathlib.Core.Bool.{Bool, true, false, cond, _&&_}
-use mathlib.Core.List.{List, _++_}
+use Prim.Native.Nat.{ℕ, _≤_, _<_}
+use mathlib.Core.Path.{_≡_, refl, ap, _∙_}
+use mathlib.Core.Bool.{true, _&&_}
+use mathlib.Core.List.{List}
 use native.Mathlib.Omega.{arith}
 use lib.Dec.{eqb, leb, ltb}
 use lib.ListN.{length, length-append}
 use borrow.Author.Tests.{leb-true, ltb-true, eqb-true, le-leb, eq-eqb, ne-eqb}
 use Rattle.laws.proofs.Choose.{and-left, and-right}
 use Rattle.counts.specs.Limits.{sessions}
-use Rattle.counts.specs.Refusals.{tooLittleRoom, outOfRange}
-use Rattle.counts.specs.Result.{Result, refused, done}
-use Rattle.counts.proofs.Results.{passed}
+use Rattle.counts.specs.Result.{refused, done}
+use Rattle.counts.proofs.Results.{passed, first-way}
 use Rattle.field.specs.Part.{part, put, Wrote}
 use Rattle.field.proofs.Put.{part-put}
-use Rattle.field.specs.Bytes.{ascii}
 use Rattle.decimal.specs.Digits.{digits}
 use Rattle.decimal.proofs.Laws.{length-digits}
 use Rattle.session_name.specs.Name.{ending, nameOf, isMax, writeRefusal, written, writtenBytes}
@@ -28,11 +26,6 @@ length-ending Response = refl
 pub length-name : (n : ℕ) (kind : Kind) → length (nameOf n kind) ≡ 12
 unfolding nameOf
 length-name n kind = omega (arith, length-append (digits 4 n) (ending kind), length-digits 4 n, length-ending kind)
-
--- a number that is no refusal came by the first way
-first-way : (t : Bool) (x k : ℕ) → cond t x (suc k) ≡ 0 → (t ≡ true) × (x ≡ 0)
-first-way true x k h = (refl, h)
-first-way false x k h = absurd (omega arith)
 
 module _ (max n : ℕ) where
   pub below-max : (isMax max && ltb n max) ≡ true → n < 32

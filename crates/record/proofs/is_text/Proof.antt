@@ -1,0 +1,16 @@
+-- `record::is_text` meets its contract.
+use Rattle.record.proofs.Rules.{reads}
+use Rattle.record.specs.Record.{isText}
+use borrow.Author.Needs.{needs}
+use Rattle.record.proofs.is_text.Statement.{statement}
+use Rattle.record.proofs.is_text.Tie as tie
+
+run-end-requires : tie.Need-run-end-requires
+run-end-requires c κs = search needs
+
+returns : tie.Need-returns
+unfolding isText
+returns c = search reads depth 9
+
+pub is-text-spec : {M : Type 1} → statement M
+is-text-spec = tie.close (tie.spec run-end-requires returns)

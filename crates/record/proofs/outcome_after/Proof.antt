@@ -1,0 +1,23 @@
+-- `record::outcome_after` meets its contract.
+use native.Mathlib.Omega.{arith}
+use Rattle.record.proofs.Fields.{ten-digits}
+use Rattle.record.proofs.Rules.{reads}
+use borrow.Author.Needs.{needs}
+use Rattle.record.proofs.outcome_after.Statement.{statement}
+use Rattle.record.proofs.outcome_after.Tie as tie
+
+plain-width-requires : tie.Need-plain-width-requires
+plain-width-requires c κs = search needs
+
+add-outcome-at : tie.Need-add-outcome-at
+add-outcome-at c = omega (arith, ten-digits _ _ (omega arith) (c .plain-width .ensures))
+
+outcome-at-requires : tie.Need-outcome-at-requires
+outcome-at-requires c κs = omega (arith, ten-digits _ _ (omega arith) (c .plain-width .ensures))
+
+returns : tie.Need-returns
+returns c = search reads depth 9
+
+pub outcome-after-spec : {M : Type 1} → statement M
+outcome-after-spec =
+    tie.close (tie.spec plain-width-requires add-outcome-at outcome-at-requires returns)

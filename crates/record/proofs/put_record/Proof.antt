@@ -1,0 +1,87 @@
+-- `record::put_record` meets its contract.
+use Prim.Native.Nat.{ℕ}
+use mathlib.Core.Path.{ap}
+use mathlib.Core.List.{_++_}
+use native.Mathlib.Omega.{arith}
+use denote.Ref.{now}
+use Rattle.counts.specs.Limits.{commands}
+use Rattle.field.specs.Bytes.{ascii}
+use Rattle.field.proofs.Put.{then, as-bytes, wrote-length}
+use Rattle.decimal.specs.Digits.{digits, plain}
+use Rattle.decimal.proofs.PlainLaws.{plain-fits}
+use Rattle.record.specs.Record.{content, recordBytes}
+use Rattle.record.proofs.Lengths.{length-fields}
+use Rattle.record.proofs.Fields.{ten-digits}
+use Rattle.record.proofs.Writes.{ranges, real-lt}
+use borrow.Author.Needs.{needs}
+use Rattle.record.proofs.put_record.Statement.{statement}
+use Rattle.record.proofs.put_record.Tie as tie
+
+slice-aggregate-put-after : tie.Need-slice-aggregate-put-after
+slice-aggregate-put-after c = search needs
+
+plain-width-requires : tie.Need-plain-width-requires
+plain-width-requires c κs = search needs
+
+put-after-requires : tie.Need-put-after-requires
+put-after-requires c κs =
+    let a = c .before .before .before .before .before .args in
+    let p = c .before .before .before .before .before .pre in
+    let w = c .plain-width .ensures in
+    let fields = length-fields (content (a .n) (a .outcome) (now (a .text)) (a .date) (a .time)) in
+    (omega (arith, ten-digits _ _ (omega arith) w), rw w (plain-fits (a .n)), omega (arith, p .room))
+
+put-outcome-requires : tie.Need-put-outcome-requires
+put-outcome-requires c κs =
+    let a = c .before .before .before .before .before .before .before .before .before .args in
+    let p = c .before .before .before .before .before .before .before .before .before .pre in
+    let w = c .before .before .before .before .plain-width .ensures in
+    let first = c .before .before .before .put-after .ensures in
+    let fields = length-fields (content (a .n) (a .outcome) (now (a .text)) (a .date) (a .time)) in
+    (ranges commands (a .n) (a .outcome) (now (a .text)) (p .range) .outcome, omega (arith, p .room))
+
+put-bytes-requires : tie.Need-put-bytes-requires
+put-bytes-requires c κs =
+    let a = c .before .before .before .before .before .before .before .before .before .before .before .before .before .args in
+    let p = c .before .before .before .before .before .before .before .before .before .before .before .before .before .pre in
+    let w = c .before .before .before .before .before .before .before .before .plain-width .ensures in
+    let first = c .before .before .before .before .before .before .before .put-after .ensures in
+    let second = c .before .before .before .put-outcome .ensures in
+    let fields = length-fields (content (a .n) (a .outcome) (now (a .text)) (a .date) (a .time)) in
+    omega (arith, p .room, wrote-length second)
+
+put-moment-requires : tie.Need-put-moment-requires
+put-moment-requires c κs =
+    let a = c .before .before .before .before .before .before .before .before .before .before .before .before .before .before .before .before .before .args in
+    let p = c .before .before .before .before .before .before .before .before .before .before .before .before .before .before .before .before .before .pre in
+    let w = c .before .before .before .before .before .before .before .before .before .before .before .before .plain-width .ensures in
+    let first = c .before .before .before .before .before .before .before .before .before .before .before .put-after .ensures in
+    let second = c .before .before .before .before .before .before .before .put-outcome .ensures in
+    let third = c .before .before .before .put-bytes .ensures in
+    let fields = length-fields (content (a .n) (a .outcome) (now (a .text)) (a .date) (a .time)) in
+    let real = real-lt (a .date) (a .time) (p .real) in
+    (real .0, real .1, omega (arith, p .room, wrote-length second, wrote-length third))
+
+same-length : tie.Need-same-length
+same-length c = search needs
+
+returns : tie.Need-returns
+unfolding recordBytes plain
+returns c =
+    let n = c .before .before .before .before .before .before .before .before .before .before .before .before .before .before .before .before .before .before .before .before .args .n in
+    let w = c .before .before .before .before .before .before .before .before .before .before .before .before .before .before .before .plain-width .ensures in
+    let first = as-bytes (c .before .before .before .before .before .before .before .before .before .before .before .before .before .before .put-after .ensures .wrote) (ap (λ (k : ℕ). ascii "COMMAND " ++ digits k n) w) in
+    then (then (then first (c .before .before .before .before .before .before .before .before .before .before .put-outcome .ensures)) (c .before .before .before .before .before .before .put-bytes .ensures)) (c .before .before .put-moment .ensures)
+
+pub put-record-spec : {M : Type 1} → statement M
+put-record-spec =
+    tie.close
+    (tie.spec
+    slice-aggregate-put-after
+    plain-width-requires
+    put-after-requires
+    put-outcome-requires
+    put-bytes-requires
+    put-moment-requires
+    same-length
+    returns)

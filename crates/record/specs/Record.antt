@@ -1,0 +1,75 @@
+-- Response records (document 01, "Response records"): what one says, which are permitted, and the bytes of one.
+use Prim.Native.Nat.{ℕ, _/_, _%_}
+use mathlib.Core.Bool.{Bool, true, _&&_}
+use mathlib.Core.List.{List, _++_}
+use lib.Dec.{leb, eqb}
+use lib.ListN.{length}
+use Rattle.counts.specs.Limits.{textBytes, classMost, codeMost}
+use Rattle.field.specs.Bytes.{ascii}
+use Rattle.decimal.specs.Digits.{digits, plain}
+use Rattle.scan.specs.Kinds.{isTextByte}
+use Rattle.scan.specs.Run.{runEnd}
+use Rattle.calendar.specs.Calendar.{realDate, realTime}
+use Rattle.record.specs.declared.Outcome.{Outcome}
+use Rattle.record.specs.declared.Outcome.the-variants.{Processed, Error}
+
+-- what a record says
+pub record Content : Type 0 where
+  pub number : ℕ
+  pub outcome : Outcome
+  pub text : List ℕ
+  pub date : ℕ
+  pub time : ℕ
+
+abbrev pub content : ℕ → Outcome → List ℕ → ℕ → ℕ → Content
+content n outcome text date time = record { number = n; outcome = outcome; text = text; date = date; time = time }
+
+-- ---- which are permitted
+
+-- "text as a string's content": 0 to 255 bytes, and their run of a string's bytes is the whole
+unfoldable pub isText : List ℕ → Bool
+isText text = leb (length text) textBytes && eqb (runEnd isTextByte text 0) (length text)
+
+-- "cc two decimal digits, eeeeeeee eight"; PROCESSED has neither
+abbrev pub isOutcome : Outcome → Bool
+isOutcome Processed = true
+isOutcome (Error class code) = leb class classMost && leb code codeMost
+
+-- number, class, code and text in range. "n is 1 to 64": the limit is a parameter, so that readers with another limit can be spoken of.
+unfoldable pub inRange : ℕ → ℕ → Outcome → List ℕ → Bool
+inRange limit n outcome text = leb 1 n && leb n limit && isOutcome outcome && isText text
+
+-- date and time
+unfoldable pub isReal : ℕ → ℕ → Bool
+isReal date time = realDate date && realTime time
+
+unfoldable pub permitted : ℕ → Content → Bool
+permitted limit c = inRange limit (c .number) (c .outcome) (c .text) && isReal (c .date) (c .time)
+
+-- ---- its bytes
+
+-- "PROCESSED" or "ERROR cc eeeeeeee" between single spaces, and the quote that opens the text
+abbrev pub outcomeBytes : Outcome → List ℕ
+outcomeBytes Processed = ascii " PROCESSED \""
+outcomeBytes (Error class code) = ascii " ERROR " ++ digits 2 class ++ ascii " " ++ digits 8 code ++ ascii " \""
+
+-- dd:dd:dd
+abbrev pub timeBytes : ℕ → List ℕ
+timeBytes time = digits 2 (time / 10000) ++ ascii ":" ++ digits 2 (time / 100 % 100) ++ ascii ":" ++ digits 2 (time % 100)
+
+-- the quote that closes the text, date and time, and `;` "then CR LF"
+unfoldable pub momentBytes : ℕ → ℕ → List ℕ
+momentBytes date time = ascii "\" " ++ digits 8 date ++ ascii " " ++ timeBytes time ++ ascii ";\r\n"
+
+-- how many they are
+abbrev pub momentLength : ℕ
+momentLength = 22
+
+-- `COMMAND n PROCESSED "text" date time;` or `COMMAND n ERROR cc eeeeeeee "text" date time;`, n "without leading zeros"
+unfoldable pub recordBytes : Content → List ℕ
+recordBytes c = ascii "COMMAND " ++ plain (c .number) ++ outcomeBytes (c .outcome) ++ c .text ++ momentBytes (c .date) (c .time)
+
+-- "Length: PROCESSED 42, ERROR 50, plus the digits of n and the bytes of text."
+abbrev pub fixedLength : Outcome → ℕ
+fixedLength Processed = 42
+fixedLength (Error class code) = 50
