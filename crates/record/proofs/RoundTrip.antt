@@ -1,17 +1,18 @@
 -- Demand 2's last sentence for records, and what else document 01 says of them: all of it about the words that the contracts of `write_record`,
 -- `read_record` and `record_text` cite, for every limit of n. The contracts have the limit 64.
 use Prim.Native.Nat.{ℕ, _+_, _≤_, _<_}
-use mathlib.Core.Path.{_≡_, sym, ap, _∙_}
+use mathlib.Core.Path.{_≡_, refl, sym, ap, _∙_, subst}
 use mathlib.Core.Bool.{true}
 use mathlib.Core.List.{List}
+use mathlib.Core.Logic.{_↔_}
 use native.Mathlib.Omega.{arith}
 use lib.Dec.{eqb}
 use lib.ListN.{length}
 use borrow.Author.Tests.{le-leb, eq-eqb, eqb-true}
 use Rattle.laws.proofs.Choose.{and-left, and-right, and-both}
 use Rattle.counts.specs.Refusals.{notARecord}
-use Rattle.counts.specs.Result.{refused, done}
-use Rattle.counts.proofs.Results.{passed}
+use Rattle.counts.specs.Result.{Result, refused, done}
+use Rattle.counts.proofs.Results.{refused-not-done, passed}
 use Rattle.field.specs.Part.{part}
 use Rattle.field.proofs.Put.{part-put}
 use Rattle.decimal.specs.Digits.{plainWidth}
@@ -43,6 +44,12 @@ WriteThenRead =
 -- only permitted records are written, and in full
 abbrev pub WrittenPermitted : Type 0
 WrittenPermitted = (limit : ℕ) (c : Content) (out : List ℕ) (k : ℕ) → written limit c out ≡ done k → (permitted limit c ≡ true) × (k ≡ lengthOf c) × (k ≤ length out)
+
+-- "The reader takes one whole record and nothing beyond. Any other bytes get 7": bytes read as c exactly where c is permitted and they are its bytes
+abbrev pub ReadExactly : Type 0
+ReadExactly =
+    (limit : ℕ) → limit < 100000000 → (s : List ℕ) (c : Content)
+    → withText s (recordRead limit s) ≡ done c ↔ ((permitted limit c ≡ true) × (s ≡ recordBytes c))
 
 -- any bytes read as a record are written again identically
 abbrev pub ReadThenWrite : Type 0
@@ -89,12 +96,32 @@ written-permitted limit c out k h =
 
 -- ---- the two trips
 
+reads : (limit : ℕ) → limit < 100000000 → (c : Content) → permitted limit c ≡ true
+    → withText (recordBytes c) (recordRead limit (recordBytes c)) ≡ done c
+reads limit most c ok = ap (withText (recordBytes c)) (record-done limit c most ok) ∙ ap done (content-same c)
+
+same-content : {c d : Content} → done c ≡ done d → c ≡ d
+same-content h = cc
+
+-- a reading with its text is a reading
+with-text : (s : List ℕ) (x : Result Record) (c : Content) → withText s x ≡ done c → (r : Record) × (x ≡ done r) × (contentOf s r ≡ c)
+with-text s (done r) c h = (r, refl, same-content h)
+with-text s (refused n p) c h = absurd (refused-not-done h)
+
+pub read-exactly : ReadExactly
+read-exactly limit most s c = (
+  λ h.
+      let (r, e, same) = with-text s (recordRead limit s) c h in
+      let was = record-back limit s r e in
+      (subst (λ (d : Content). permitted limit d ≡ true) same (was .ok), was .bytes ∙ ap recordBytes same),
+  λ h. rw (h .1) (reads limit most c (h .0)),
+)
+
 pub write-then-read : WriteThenRead
 write-then-read limit most c out ok room =
     let e = length-record c in
     let r : length (recordBytes c) ≤ length out = omega arith in
-    let reads : withText (recordBytes c) (recordRead limit (recordBytes c)) ≡ done c = ap (withText (recordBytes c)) (record-done limit c most ok) ∙ ap done (content-same c) in
-    (writes limit c out ok r ∙ ap done e, rw (← e, leaves limit c out ok r) reads)
+    (writes limit c out ok r ∙ ap done e, rw (← e, leaves limit c out ok r) (reads limit most c ok))
 
 pub read-then-write : ReadThenWrite
 read-then-write limit s r out h room =

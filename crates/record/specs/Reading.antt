@@ -47,7 +47,7 @@ onOutcome NoOutcome stop go = stop
 unfoldable pub fieldAfter : List ℕ → ℕ → List ℕ → ℕ → FieldRead
 fieldAfter s at word w = cond (hasAt s at word) (onDigits (digitsRead w (part s (at + length word) w)) NoField Field) NoField
 
--- COMMAND and the number in the w digits after it, 1 to the limit "without leading zeros"
+-- COMMAND and the number in the w digits after it, 1 to the limit "without leading zeros". No field of a record has more than eight digits.
 unfoldable pub numberIn : ℕ → List ℕ → ℕ → FieldRead
 numberIn limit s w =
     cond (leb 1 w && leb w 8)

@@ -282,21 +282,30 @@ fn fixed_length(outcome: Outcome) -> usize
     }
 }
 
-// How many bytes a record takes.
-pub fn record_length(n: u32, outcome: Outcome, size: usize) -> usize
+// How many bytes a record with a text of that size takes.
+pub fn record_length(number: CommandNumber, outcome: Outcome, size: usize) -> usize
     requires { ⌜ size ≤ textBytes ⌝ }
-    ensures { λ r. ⌜ r ≡ fixedLength outcome + plainWidth n + size ⌝ }
+    ensures { λ r. ⌜ r ≡ fixedLength outcome + plainWidth (number .0) + size ⌝ }
 {
+    let n = number.0;
     fixed_length(outcome) + decimal::plain_width(n as u64) + size
 }
 
 // Which refusal a record and the room for it get, and 0 for none.
-fn write_refusal(n: u32, outcome: Outcome, date: u32, time: u32, text: &[u8], room: usize) -> u32
-    ensures { λ r. ⌜ r ≡ writeRefusal commands (content n outcome (now (text .entry)) date time) room ⌝ }
+fn write_refusal(
+    number: CommandNumber,
+    outcome: Outcome,
+    date: u32,
+    time: u32,
+    text: &[u8],
+    room: usize,
+) -> u32
+    ensures { λ r. ⌜ r ≡ writeRefusal commands (content (number .0) outcome (now (text .entry)) date time) room ⌝ }
 {
+    let n = number.0;
     if in_range(n, outcome, text) {
         if is_real(date, time) {
-            if record_length(n, outcome, text.len()) <= room {
+            if record_length(number, outcome, text.len()) <= room {
                 return 0;
             }
             return TOO_LITTLE_ROOM;
@@ -352,15 +361,16 @@ fn put_moment(out: &mut [u8], at: usize, date: u32, time: u32) -> usize
 pub fn put_record(
     out: &mut [u8],
     at: usize,
-    n: u32,
+    number: CommandNumber,
     outcome: Outcome,
     date: u32,
     time: u32,
     text: &[u8],
 ) -> usize
-    requires { ⌜ Fits commands (content n outcome (now text) date time) at (now out) ⌝ }
-    ensures { λ r. ⌜ Wrote (now (out .entry)) at (recordBytes (content n outcome (now (text .entry)) date time)) (now (out .exit)) r ⌝ }
+    requires { ⌜ Fits commands (content (number .0) outcome (now text) date time) at (now out) ⌝ }
+    ensures { λ r. ⌜ Wrote (now (out .entry)) at (recordBytes (content (number .0) outcome (now (text .entry)) date time)) (now (out .exit)) r ⌝ }
 {
+    let n = number.0;
     let a = put_after(out, at, b"COMMAND ", decimal::plain_width(n as u64), n);
     let b = put_outcome(out, a, outcome);
     let d = field::put_bytes(out, b, text);
@@ -378,10 +388,9 @@ pub fn write_record(
 ) -> Written
     ensures { λ r. ⌜ (writeSays r ≡ written commands (content (number .0) outcome (now (text .entry)) date time) (now (out .entry))) × (now (out .exit) ≡ writtenBytes commands (content (number .0) outcome (now (text .entry)) date time) (now (out .entry))) ⌝ }
 {
-    let n = number.0;
-    let no = write_refusal(n, outcome, date, time, text, out.len());
+    let no = write_refusal(number, outcome, date, time, text, out.len());
     if no == 0 {
-        Written::Bytes(put_record(out, 0, n, outcome, date, time, text))
+        Written::Bytes(put_record(out, 0, number, outcome, date, time, text))
     } else {
         Written::Refused(Refusal::plain(no))
     }

@@ -20,6 +20,9 @@ use Rattle.record.proofs.put_record.Tie as tie
 slice-aggregate-put-after : tie.Need-slice-aggregate-put-after
 slice-aggregate-put-after c = search needs
 
+cast-plain-width : tie.Need-cast-plain-width
+cast-plain-width c = search needs
+
 plain-width-requires : tie.Need-plain-width-requires
 plain-width-requires c κs = search needs
 
@@ -28,8 +31,8 @@ put-after-requires c κs =
     let a = c .before .before .before .before .before .args in
     let p = c .before .before .before .before .before .pre in
     let w = c .plain-width .ensures in
-    let fields = length-fields (content (a .n) (a .outcome) (now (a .text)) (a .date) (a .time)) in
-    (omega (arith, ten-digits _ _ (omega arith) w), rw w (plain-fits (a .n)), omega (arith, p .room))
+    let fields = length-fields (content (a .number .0) (a .outcome) (now (a .text)) (a .date) (a .time)) in
+    (omega (arith, ten-digits _ _ (omega arith) w), rw w (plain-fits (a .number .0)), omega (arith, p .room))
 
 put-outcome-requires : tie.Need-put-outcome-requires
 put-outcome-requires c κs =
@@ -37,8 +40,8 @@ put-outcome-requires c κs =
     let p = c .before .before .before .before .before .before .before .before .before .pre in
     let w = c .before .before .before .before .plain-width .ensures in
     let first = c .before .before .before .put-after .ensures in
-    let fields = length-fields (content (a .n) (a .outcome) (now (a .text)) (a .date) (a .time)) in
-    (ranges commands (a .n) (a .outcome) (now (a .text)) (p .range) .outcome, omega (arith, p .room))
+    let fields = length-fields (content (a .number .0) (a .outcome) (now (a .text)) (a .date) (a .time)) in
+    (ranges commands (a .number .0) (a .outcome) (now (a .text)) (p .range) .outcome, omega (arith, p .room))
 
 put-bytes-requires : tie.Need-put-bytes-requires
 put-bytes-requires c κs =
@@ -47,7 +50,7 @@ put-bytes-requires c κs =
     let w = c .before .before .before .before .before .before .before .before .plain-width .ensures in
     let first = c .before .before .before .before .before .before .before .put-after .ensures in
     let second = c .before .before .before .put-outcome .ensures in
-    let fields = length-fields (content (a .n) (a .outcome) (now (a .text)) (a .date) (a .time)) in
+    let fields = length-fields (content (a .number .0) (a .outcome) (now (a .text)) (a .date) (a .time)) in
     omega (arith, p .room, wrote-length second)
 
 put-moment-requires : tie.Need-put-moment-requires
@@ -58,7 +61,7 @@ put-moment-requires c κs =
     let first = c .before .before .before .before .before .before .before .before .before .before .before .put-after .ensures in
     let second = c .before .before .before .before .before .before .before .put-outcome .ensures in
     let third = c .before .before .before .put-bytes .ensures in
-    let fields = length-fields (content (a .n) (a .outcome) (now (a .text)) (a .date) (a .time)) in
+    let fields = length-fields (content (a .number .0) (a .outcome) (now (a .text)) (a .date) (a .time)) in
     let real = real-lt (a .date) (a .time) (p .real) in
     (real .0, real .1, omega (arith, p .room, wrote-length second, wrote-length third))
 
@@ -68,7 +71,7 @@ same-length c = search needs
 returns : tie.Need-returns
 unfolding recordBytes plain
 returns c =
-    let n = c .before .before .before .before .before .before .before .before .before .before .before .before .before .before .before .before .before .before .before .before .args .n in
+    let n = c .before .before .before .before .before .before .before .before .before .before .before .before .before .before .before .before .before .before .before .before .args .number .0 in
     let w = c .before .before .before .before .before .before .before .before .before .before .before .before .before .before .before .plain-width .ensures in
     let first = as-bytes (c .before .before .before .before .before .before .before .before .before .before .before .before .before .before .put-after .ensures .wrote) (ap (λ (k : ℕ). ascii "COMMAND " ++ digits k n) w) in
     then (then (then first (c .before .before .before .before .before .before .before .before .before .before .put-outcome .ensures)) (c .before .before .before .before .before .before .put-bytes .ensures)) (c .before .before .put-moment .ensures)
@@ -78,7 +81,7 @@ put-record-spec =
     tie.close
     (tie.spec
     slice-aggregate-put-after
-    plain-width-requires
+    cast-plain-width plain-width-requires
     put-after-requires
     put-outcome-requires
     put-bytes-requires

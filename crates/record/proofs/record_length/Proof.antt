@@ -9,6 +9,9 @@ use Rattle.record.proofs.record_length.Tie as tie
 fixed-length-requires : tie.Need-fixed-length-requires
 fixed-length-requires c κs = search needs
 
+cast-plain-width : tie.Need-cast-plain-width
+cast-plain-width c = search needs
+
 plain-width-requires : tie.Need-plain-width-requires
 plain-width-requires c κs = search needs
 
@@ -23,4 +26,4 @@ returns c = search needs
 
 pub record-length-spec : {M : Type 1} → statement M
 record-length-spec =
-    tie.close (tie.spec fixed-length-requires plain-width-requires add-result add-result-2 returns)
+    tie.close (tie.spec fixed-length-requires cast-plain-width plain-width-requires add-result add-result-2 returns)
