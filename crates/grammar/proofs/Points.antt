@@ -2,7 +2,7 @@
 -- exactly when they are a production with its ;
 use mathlib.Core.Path.{_≡_, refl, sym, _∙_, ap, subst}
 use mathlib.Core.Logic.{_⊎_, inl, inr}
-use mathlib.Core.Bool.{Bool, true, false, cond}
+use mathlib.Core.Bool.{Bool, true, false, true≢false, cond}
 use mathlib.Core.List.{List, [], _∷_, _++_}
 use Prim.Native.Nat.{ℕ, _<_}
 use native.Mathlib.Omega.{arith}
@@ -11,13 +11,14 @@ use lib.Dec.{lit<}
 use Rattle.grammar.specs.Grammar.{Class, Point, Edge, next, look, step, walk, isClass, isPoint, classNo, classOf, pointNo, pointOf}
 use Rattle.grammar.specs.Grammar.Class.{JOB, RESPONSE, UPLOAD, DOWNLOAD, GETINFO, ABORT, REPORT, EVENT, START, ACTIVE, IMMEDIATE, reserved, name, TIME≥, number, date, unrealDate, time, unrealTime, string, operator, semicolon}
 use Rattle.grammar.specs.Grammar.Point.{first, between, statement, jobName, jobResponse, jobFile, moveFile, moveSource, moveStart, startKind, startTime, startDate, startOperator, startValue, infoFile, abortKind, abortName, ending, done, dead}
-use Rattle.grammar.specs.Productions.{Start, Move, Job, Other, Ended}
+use Rattle.grammar.specs.Productions.{Start, Move, Job, Other, Any, Ended}
 use Rattle.grammar.specs.Productions.Value.{plain, digits, unreal-digits, quoted}
 use Rattle.grammar.specs.Productions.Start.{missing, immediate, at-time, at-time-on, when}
 use Rattle.grammar.specs.Productions.Source.{active, file, program}
 use Rattle.grammar.specs.Productions.Move.{move}
 use Rattle.grammar.specs.Productions.Job.{job}
 use Rattle.grammar.specs.Productions.Other.{upload, download, getinfo, abort-report, abort-event}
+use Rattle.grammar.specs.Productions.Any.{the-job, another}
 use Rattle.grammar.specs.Productions.Ended.{ended}
 
 -- classes and points are told apart by their numbers
@@ -101,10 +102,6 @@ is-point p q e = sym (point-again p) ∙ ap pointOf {x = pointNo p} {y = pointNo
 -- the productions, from each point on, up to the ;
 data Nothing : List Class → Type 0 where
   nothing : Nothing []
-
-data Any : List Class → Type 0 where
-  the-job : {k : List Class} → Job k → Any k
-  another : {k : List Class} → Other k → Any k
 
 abbrev Body : Point → List Class → Type 0
 Body first k = Job k
@@ -209,6 +206,9 @@ walked-job k w = tail k first w
 pub walked-other : (k : List Class) → walk between k ≡ done → Ended Other k
 walked-other k w = tail k between w
 
+pub walked-any : (k : List Class) → walk statement k ≡ done → Ended Any k
+walked-any k w = tail k statement w
+
 -- the other way
 start-walks : {k : List Class} → Start k → walk moveStart (k ++ (semicolon ∷ [])) ≡ done
 start-walks missing = refl
@@ -234,3 +234,56 @@ other-walks (ended abort-event) = refl
 
 pub job-walks : {k : List Class} → Ended Job k → walk first k ≡ done
 job-walks (ended job) = refl
+
+pub any-walks : {k : List Class} → Ended Any k → walk statement k ≡ done
+any-walks (ended (the-job job)) = refl
+any-walks (ended (another (upload m))) = move-walks m
+any-walks (ended (another (download m))) = move-walks m
+any-walks (ended (another getinfo)) = refl
+any-walks (ended (another abort-report)) = refl
+any-walks (ended (another abort-event)) = refl
+
+-- a way to end a statement from each point
+abbrev pub finish : Point → List Class
+finish first = JOB ∷ name ∷ RESPONSE ∷ string ∷ semicolon ∷ []
+finish between = GETINFO ∷ string ∷ semicolon ∷ []
+finish statement = GETINFO ∷ string ∷ semicolon ∷ []
+finish jobName = name ∷ RESPONSE ∷ string ∷ semicolon ∷ []
+finish jobResponse = RESPONSE ∷ string ∷ semicolon ∷ []
+finish jobFile = string ∷ semicolon ∷ []
+finish moveFile = string ∷ ACTIVE ∷ semicolon ∷ []
+finish moveSource = ACTIVE ∷ semicolon ∷ []
+finish moveStart = semicolon ∷ []
+finish startKind = IMMEDIATE ∷ semicolon ∷ []
+finish startTime = time ∷ semicolon ∷ []
+finish startDate = semicolon ∷ []
+finish startOperator = operator ∷ number ∷ semicolon ∷ []
+finish startValue = number ∷ semicolon ∷ []
+finish infoFile = string ∷ semicolon ∷ []
+finish abortKind = EVENT ∷ name ∷ semicolon ∷ []
+finish abortName = name ∷ semicolon ∷ []
+finish ending = semicolon ∷ []
+finish done = []
+finish dead = []
+
+pub finishes : (q : Point) → isPoint q dead ≡ false → walk q (finish q) ≡ done
+finishes first e = refl
+finishes between e = refl
+finishes statement e = refl
+finishes jobName e = refl
+finishes jobResponse e = refl
+finishes jobFile e = refl
+finishes moveFile e = refl
+finishes moveSource e = refl
+finishes moveStart e = refl
+finishes startKind e = refl
+finishes startTime e = refl
+finishes startDate e = refl
+finishes startOperator e = refl
+finishes startValue e = refl
+finishes infoFile e = refl
+finishes abortKind e = refl
+finishes abortName e = refl
+finishes ending e = refl
+finishes done e = refl
+finishes dead e = absurd (true≢false e)

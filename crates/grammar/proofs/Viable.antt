@@ -10,35 +10,13 @@ use Rattle.grammar.specs.Productions.{Placed, Begins}
 use Rattle.grammar.specs.Reading.{State, move, moves}
 use Rattle.grammar.specs.Reading.State.{on, wrong}
 use Rattle.grammar.specs.Rows.{MayStand}
+use Rattle.grammar.proofs.Points.{finish}
 use Rattle.grammar.proofs.Moves.{Fine, fine, moves-append, moves-wrong, wrong≢on}
 use Rattle.grammar.proofs.Moves.Fine.{fresh, running}
 use Rattle.grammar.proofs.Files.{file-read, read-legal}
 
 abbrev pub start : State
 start = on done []
-
--- a way to end a statement from each point
-abbrev finish : Point → List Class
-finish first = JOB ∷ name ∷ RESPONSE ∷ string ∷ semicolon ∷ []
-finish between = GETINFO ∷ string ∷ semicolon ∷ []
-finish statement = GETINFO ∷ string ∷ semicolon ∷ []
-finish jobName = name ∷ RESPONSE ∷ string ∷ semicolon ∷ []
-finish jobResponse = RESPONSE ∷ string ∷ semicolon ∷ []
-finish jobFile = string ∷ semicolon ∷ []
-finish moveFile = string ∷ ACTIVE ∷ semicolon ∷ []
-finish moveSource = ACTIVE ∷ semicolon ∷ []
-finish moveStart = semicolon ∷ []
-finish startKind = IMMEDIATE ∷ semicolon ∷ []
-finish startTime = time ∷ semicolon ∷ []
-finish startDate = semicolon ∷ []
-finish startOperator = operator ∷ number ∷ semicolon ∷ []
-finish startValue = number ∷ semicolon ∷ []
-finish infoFile = string ∷ semicolon ∷ []
-finish abortKind = EVENT ∷ name ∷ semicolon ∷ []
-finish abortName = name ∷ semicolon ∷ []
-finish ending = semicolon ∷ []
-finish done = []
-finish dead = []
 
 abbrev placed : List Class → List Placed
 placed [] = []

@@ -44,6 +44,11 @@ pub data Other : List Class → Type 0 where
   abort-report : Other (ABORT ∷ REPORT ∷ name ∷ [])
   abort-event : Other (ABORT ∷ EVENT ∷ name ∷ [])
 
+-- a statement of any kind
+pub data Any : List Class → Type 0 where
+  the-job : {k : List Class} → Job k → Any k
+  another : {k : List Class} → Other k → Any k
+
 -- each ended by ;
 pub data Ended (Body : List Class → Type 0) : List Class → Type 0 where
   ended : {k : List Class} → Body k → Ended Body (k ++ (semicolon ∷ []))

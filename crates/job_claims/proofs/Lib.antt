@@ -1,2 +1,3 @@
 pub mod Tiles
+pub mod One
 pub mod Claims

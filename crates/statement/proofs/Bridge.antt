@@ -92,13 +92,13 @@ module _ (s : List ℕ) where
       go later false = later
 
   -- a token in a statement
-  abbrev turnPart : Point → Placed → ℕ → Part
+  abbrev pub turnPart : Point → Placed → ℕ → Part
   turnPart q t b =
       cond (isPoint (step q (t .class)) dead)
       (cond (isPoint (step q (shape (t .class))) dead) (stopped unexpected (t .place)) (stopped notReal (t .place)))
       (partAt s (step q (t .class)) b)
 
-  on-token : (q : Point) → isPoint q done ≡ false → (i b : ℕ) (t : Placed) → nextItem s i ≡ item t b → partAt s q i ≡ turnPart q t b
+  pub on-token : (q : Point) → isPoint q done ≡ false → (i b : ℕ) (t : Placed) → nextItem s i ≡ item t b → partAt s q i ≡ turnPart q t b
   unfolding oneOf
   on-token q d i b t e =
       by-edges q d i
@@ -106,11 +106,11 @@ module _ (s : List ℕ) where
       ∙ pick-look (t .class) b (cond (has (shape (t .class)) (branches (next q))) (stopped notReal (t .place)) (stopped unexpected (t .place))) (next q) (lives q)
       ∙ ap (λ (x : Part). cond (isPoint (step q (t .class)) dead) x (partAt s (step q (t .class)) b)) (rw (has-look (shape (t .class)) (next q) (lives q)) (swap (isPoint (step q (shape (t .class))) dead) (stopped notReal (t .place)) (stopped unexpected (t .place))))
 
-  on-end : (q : Point) → isPoint q done ≡ false → (i p : ℕ) → nextItem s i ≡ ended p → partAt s q i ≡ stopped unexpected p
+  pub on-end : (q : Point) → isPoint q done ≡ false → (i p : ℕ) → nextItem s i ≡ ended p → partAt s q i ≡ stopped unexpected p
   unfolding oneOf
   on-end q d i p e = by-edges q d i ∙ ap (onItem (branches (next q))) e
 
-  on-none : (q : Point) → isPoint q done ≡ false → (i p : ℕ) → nextItem s i ≡ none p → partAt s q i ≡ stopped noToken p
+  pub on-none : (q : Point) → isPoint q done ≡ false → (i p : ℕ) → nextItem s i ≡ none p → partAt s q i ≡ stopped noToken p
   unfolding oneOf
   on-none q d i p e = by-edges q d i ∙ ap (onItem (branches (next q))) e
 
