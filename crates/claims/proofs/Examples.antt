@@ -6,15 +6,22 @@ use mathlib.Core.Logic.{⊎-elim}
 use Rattle.laws.proofs.Choose.{and-left, and-right}
 use Rattle.field.specs.Bytes.{same, hasAt}
 use Rattle.field.specs.Part.{part}
-use Rattle.decimal.specs.Digits.{value, isDigit, allDigits}
+use Rattle.decimal.specs.Digits.{digits, value, isDigit, allDigits, widthFrom, plainWidth, plain}
 use Rattle.decimal.specs.Read.{digitsRead}
+use Rattle.scan.specs.Run.{run, runEnd, blank, blankEnd}
+use Rattle.token.specs.Token.{wordAt, textAt, isTimeAt, isNumberAt, shapedAt, numericAt, signAt, tokenAt, nextToken}
+use Rattle.item.specs.Tokens.{abortClass, clauseClass, wordClass, numberClass, dateNumber, timeNumber, itemOf, nextItem, lineFrom, line}
+use Rattle.grammar.specs.Reading.{read}
+use Rattle.job.specs.Job.{readJob}
+use Rattle.number.specs.Number.{digitsOf, scaleOf, numberOf}
+use Rattle.record.specs.Record.{momentBytes, recordBytes}
 use Rattle.calendar.specs.Calendar.{februaryLength, monthLength, realDate, realTime}
 use Rattle.session_name.specs.Name.{kindRead, numberRead, nameRead}
 use Rattle.claims.specs.Examples.{Row, examples, allHold}
 
 -- The one test. A row that leans on a new word has the word added to this line.
 pub examples-hold : allHold examples ≡ true
-unfolding examples allHold februaryLength monthLength realDate realTime part same hasAt value isDigit allDigits digitsRead kindRead numberRead nameRead
+unfolding examples allHold februaryLength monthLength realDate realTime part same hasAt digits value isDigit allDigits widthFrom plainWidth plain digitsRead kindRead numberRead nameRead run runEnd blank blankEnd wordAt textAt isTimeAt isNumberAt shapedAt numericAt signAt tokenAt nextToken abortClass clauseClass wordClass numberClass dateNumber timeNumber itemOf nextItem lineFrom line read readJob digitsOf scaleOf numberOf momentBytes recordBytes
 examples-hold = refl
 
 -- so each row holds

@@ -5,10 +5,19 @@ use Prim.Native.String.{String}
 use mathlib.Core.Bool.{Bool, true, false, not, _&&_}
 use mathlib.Core.List.{List, [], _∷_}
 use lib.Dec.{eqb}
-use Rattle.field.specs.Bytes.{ascii}
+use lib.IntN.{ℤ, pos, negsuc}
+use lib.ListN.{length}
+use Rattle.field.specs.Bytes.{ascii, same}
 use Rattle.calendar.specs.Calendar.{realDate, realTime}
-use Rattle.counts.specs.Refusals.{outOfRange}
+use Rattle.counts.specs.Limits.{statements}
+use Rattle.counts.specs.Refusals.{noToken, unexpected, outOfRange}
 use Rattle.counts.specs.Result.{Result, refused, done}
+use Rattle.job.specs.Job.{readJob}
+use Rattle.number.specs.Number.{numberOf}
+use Rattle.number.specs.declared.Number.{Number}
+use Rattle.record.specs.Record.{content, recordBytes}
+use Rattle.record.specs.declared.Outcome.{Outcome}
+use Rattle.record.specs.declared.Outcome.the-variants.{Processed, Error}
 use Rattle.session_name.specs.Name.{nameRead}
 
 pub record Row : Type 0 where
@@ -26,9 +35,42 @@ abbrev pub isTaken : {A : Type 0} → Result A → Bool
 isTaken (refused n p) = false
 isTaken (done a) = true
 
+-- a job file of these bytes is taken, and its statements begin at these offsets
+abbrev pub isTakenAt : List ℕ → Result (List ℕ) → Bool
+isTakenAt os (refused n p) = false
+isTakenAt os (done offsets) = same offsets os
+
+-- two numbers read alike: mantissa and scale
+abbrev pub sameWhole : ℤ → ℤ → Bool
+sameWhole (pos m) (pos n) = eqb m n
+sameWhole (pos m) (negsuc n) = false
+sameWhole (negsuc m) (pos n) = false
+sameWhole (negsuc m) (negsuc n) = eqb m n
+
+abbrev pub sameNumber : Number → Number → Bool
+sameNumber x y = sameWhole (x .mantissa) (y .mantissa) && eqb (x .scale) (y .scale)
+
+-- a job file, read with a table of 64 places
+abbrev pub job : String → Result (List ℕ)
+job text = readJob (ascii text) statements
+
+-- the length of a record with number 1 and no text
+abbrev pub recordLength : Outcome → ℕ
+recordLength outcome = length (recordBytes (content 1 outcome [] 20240430 235959))
+
 unfoldable pub examples : List Row
 examples =
-    row "date 20240431: refused" (not (realDate 20240431))
+    row "empty file: 4 at 0" (isRefused unexpected 0 (job ""))
+    ∷ row "JOB: 4 at 3" (isRefused unexpected 3 (job "JOB"))
+    ∷ row "JOB t1 RESPONSE \"t1.log\": 4 at 24" (isRefused unexpected 24 (job "JOB t1 RESPONSE \"t1.log\""))
+    ∷ row "the same with ;: one statement" (isTakenAt (0 ∷ []) (job "JOB t1 RESPONSE \"t1.log\";"))
+    ∷ row "JOB START RESPONSE \"x\";: 4 at 4" (isRefused unexpected 4 (job "JOB START RESPONSE \"x\";"))
+    ∷ row "JOB a RESPONSE \"x: 3 at 15" (isRefused noToken 15 (job "JOB a RESPONSE \"x"))
+    ∷ row "-0 equals 0" (sameNumber (numberOf (ascii "-0")) (numberOf (ascii "0")))
+    ∷ row "17 digits: 3" (isRefused noToken 0 (job "12345678901234567"))
+    ∷ row "PROCESSED, n 1, empty text: 43 bytes" (eqb (recordLength Processed) 43)
+    ∷ row "ERROR: 51" (eqb (recordLength (Error 6 16)) 51)
+    ∷ row "date 20240431: refused" (not (realDate 20240431))
     ∷ row "20240430: taken" (realDate 20240430)
     ∷ row "time 24:00:00: refused" (not (realTime 240000))
     ∷ row "23:59:59: taken" (realTime 235959)
