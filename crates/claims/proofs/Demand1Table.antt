@@ -13,7 +13,8 @@ use Rattle.counts.specs.Result.{Result, refused, done}
 use Rattle.counts.specs.declared.Refusal.{Refusal}
 use Rattle.counts.proofs.Results.{refused-not-done, same-refusal}
 use Rattle.sessions.specs.Find.{Found, none, at, find}
-use Rattle.sessions.specs.Records.{isOutcome, isDated}
+use Rattle.record.specs.Record.{isOutcome}
+use Rattle.sessions.specs.Records.{isDated}
 use Rattle.sessions.specs.Table.{State, within, isOpen, isWaiting, turn, lowest, names, placeIn, place, takeNext, takeHand, takeUp, answerHand, answer}
 use Rattle.sessions.specs.declared.Answer.{Answer}
 use Rattle.table_layout.specs.Layout.{tableBytes}

@@ -246,7 +246,7 @@ pub fn record_text(bytes: &[u8]) -> &[u8]
     &bytes[start..end]
 }
 
-fn is_outcome(outcome: Outcome) -> bool
+pub fn is_outcome(outcome: Outcome) -> bool
     ensures { λ r. ⌜ r ≡ isOutcome outcome ⌝ }
 {
     match outcome {
@@ -267,7 +267,7 @@ fn in_range(n: u32, outcome: Outcome, text: &[u8]) -> bool
     (1 <= n) & (n <= COMMANDS) & is_outcome(outcome) & is_text(text)
 }
 
-fn is_real(date: u32, time: u32) -> bool
+pub fn is_real(date: u32, time: u32) -> bool
     ensures { λ r. ⌜ r ≡ isReal date time ⌝ }
 {
     calendar::is_real_date(date) & calendar::is_real_time(time)

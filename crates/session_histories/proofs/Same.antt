@@ -12,7 +12,8 @@ use Rattle.sessions.proofs.Laws.{if-cond}
 use Rattle.sessions.specs.Find.{Found, none, at, find}
 use Rattle.sessions.specs.History.{Call, toPlace, toTakeUp, toAnswer, toCollect, step, table, history}
 use Rattle.sessions.specs.Owed.{Refuses as RefusesWithout}
-use Rattle.sessions.specs.Records.{isDated, isOutcome}
+use Rattle.record.specs.Record.{isOutcome}
+use Rattle.sessions.specs.Records.{isDated}
 use Rattle.sessions.specs.Table.{State, within, isOpen, place, placeIn, isWaiting, turn, takeUp, takeHand, takeNext, names, answer, answerHand, isReady, reply, collect, collectFrom}
 use Rattle.sessions.specs.declared.Answer.{Answer}
 use Rattle.session_table.specs.Calls.{placing, takingUp, answering, collecting, freshBytes}

@@ -15,11 +15,12 @@ use Rattle.counts.specs.Limits.{commands, sessions, classMost, codeMost}
 use Rattle.laws.proofs.Choose.{and-left, and-right}
 use Rattle.sessions.proofs.Loops.{first-same}
 use Rattle.sessions.specs.Find.{none, put, first}
-use Rattle.sessions.specs.Records.{isDated, isOutcome}
+use Rattle.record.specs.Record.{isReal, isOutcome}
+use Rattle.sessions.specs.Records.{isDated}
 use Rattle.sessions.specs.Table.{Slot, withAnswer, afterAnswer}
 use Rattle.sessions.specs.declared.Answer.{Answer}
-use Rattle.sessions.specs.declared.Outcome.{Outcome}
-use Rattle.sessions.specs.declared.Outcome.the-variants.{Processed, Error}
+use Rattle.record.specs.declared.Outcome.{Outcome}
+use Rattle.record.specs.declared.Outcome.the-variants.{Processed, Error}
 use Rattle.table_layout.proofs.Numbers.{number-same, number-other, length-putNumber}
 use Rattle.table_layout.specs.Layout.{slotNumbers, tableBytes, headAt, entryAt, answeredAt, maxAt, lastAt, markAt, handAt, number, putNumber, headOf, putEntry, entryOf, outcomeOf, kindOf, codeOf}
 use Rattle.table_search.proofs.Sounds.{sound-size, Waits}
@@ -36,7 +37,7 @@ outcome-back Processed = refl
 outcome-back (Error class code) = rw (ne-eqb (class + 1) 0 (λ z. omega arith)) (ap (λ k. Error k code) (omega arith))
 
 outcome-fits : (o : Outcome) → isOutcome o ≡ true → (kindOf o < 4294967296) × (codeOf o < 4294967296)
-unfolding isOutcome kindOf codeOf
+unfolding kindOf codeOf
 outcome-fits Processed e = (omega arith, omega arith)
 outcome-fits (Error class code) e =
     let k = leb-true class classMost (and-left (leb class classMost) (leb code codeMost) e) in
@@ -44,7 +45,7 @@ outcome-fits (Error class code) e =
     (omega arith, omega arith)
 
 date-fits : (a : Answer) → isDated a ≡ true → (a .date < 4294967296) × (a .time < 4294967296)
-unfolding isDated
+unfolding isReal
 date-fits a e =
     let d = date-lt (a .date) (and-left (realDate (a .date)) (realTime (a .time)) e) in
     let t = time-lt (a .time) (and-right (realDate (a .date)) (realTime (a .time)) e) in

@@ -13,11 +13,12 @@ use Rattle.counts.specs.declared.Refusal.{Refusal}
 use Rattle.laws.proofs.Choose.{and-left}
 use Rattle.sessions.proofs.Laws.{refused≢done}
 use Rattle.sessions.specs.Find.{Found, none, at}
-use Rattle.sessions.specs.Records.{isDated, isOutcome}
+use Rattle.record.specs.Record.{isOutcome}
+use Rattle.sessions.specs.Records.{isDated}
 use Rattle.sessions.specs.Table.{State, names, lowest, answerHand, answer}
 use Rattle.sessions.specs.declared.Answer.{Answer}
-use Rattle.sessions.specs.declared.Outcome.{Outcome}
-use Rattle.sessions.specs.declared.Outcome.the-variants.{Processed, Error}
+use Rattle.record.specs.declared.Outcome.{Outcome}
+use Rattle.record.specs.declared.Outcome.the-variants.{Processed, Error}
 use Rattle.table_layout.specs.Layout.{number, handAt, kindOf, headOf}
 use Rattle.table_layout.specs.declared.Head.{Head}
 use Rattle.table_search.proofs.Sounds.{Waits, waits, hand-waits}
@@ -31,7 +32,7 @@ use Rattle.session_table.proofs.Verdicts.{passed, passed-both, is-done,
 
 -- an outcome in range is stored in a number
 pub kind-fits : (o : Outcome) → isOutcome o ≡ true → kindOf o ≤ 4294967295
-unfolding kindOf isOutcome
+unfolding kindOf
 kind-fits Processed e = omega arith
 kind-fits (Error class code) e = omega (arith, leb-true class classMost (and-left (leb class classMost) (leb code codeMost) e))
 

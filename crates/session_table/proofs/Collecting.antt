@@ -1,5 +1,5 @@
 -- Collecting: the ways through its tests, and what it leaves. Assumes nothing.
-use Prim.Native.Nat.{ℕ, _≤_, _<_}
+use Prim.Native.Nat.{ℕ, _+_, _≤_, _<_}
 use mathlib.Core.Path.{_≡_, refl, _∙_, ap, sym}
 use mathlib.Core.Bool.{Bool, true, false, cond}
 use mathlib.Core.List.{List}
@@ -7,17 +7,27 @@ use native.Mathlib.Omega.{arith}
 use lib.Dec.{leb}
 use lib.ListN.{length}
 use borrow.Author.Tests.{le-leb, lt-leb, leb-true}
-use Rattle.counts.specs.Limits.{programs}
-use Rattle.counts.specs.Refusals.{notTheOne, outOfRange, tooLittleRoom, unsound}
+use Rattle.counts.specs.Limits.{commands, programs, sessions}
+use Rattle.counts.specs.Refusals.{notTheOne, outOfRange, tooLittleRoom, unsound, refusal}
 use Rattle.counts.specs.Result.{done}
-use Rattle.sessions.proofs.Laws.{Search, hit, search-find, refused≢done}
-use Rattle.sessions.proofs.Loops.{found-at, found-none}
-use Rattle.sessions.specs.Find.{Found, none, at, orNone, find}
+use Rattle.counts.specs.declared.Refusal.{Refusal}
+use Rattle.field.specs.Part.{put, Wrote}
+use Rattle.sessions.proofs.Laws.{Search, hit, search-find, is-ready, refused≢done}
+use Rattle.sessions.proofs.Loops.{found-at, found-none, find-at, all-real}
+use Rattle.sessions.specs.Find.{Found, none, at, orNone, find, all}
 use Rattle.sessions.specs.Table.{within, isReady, reply, collect, collectFrom}
-use Rattle.table_layout.specs.Layout.{number, maxAt}
+use Rattle.table_layout.specs.Layout.{number, maxAt, answeredAt, entryOf, headOf}
+use Rattle.table_layout.specs.declared.Head.{Head}
+use Rattle.table_reply.specs.Reply.{replyOf}
+use Rattle.table_search.proofs.Sounds.{Stands, stands}
+use Rattle.table_sound.proofs.Slots.{answers-held}
+use Rattle.sessions.specs.Sound.{isReal, allReal}
 use Rattle.table_sound.specs.Bytes.{slotOf, abs, soundBytes}
-use Rattle.session_table.specs.Calls.{only, verdict, collecting, readyIn, collectedAt, collectedBytes}
-use Rattle.session_table.proofs.Verdicts.{passed, passed-both}
+use Rattle.session_table.specs.Calls.{only, verdict, collecting, readyIn, collectedAt, collectedBytes, collectedOut}
+use Rattle.session_table.specs.Collect.{Collects}
+use Rattle.session_table.specs.Paper.{paperCollected}
+use Rattle.session_table.specs.declared.Collected.the-variants.{Written, Refused as NotCollected}
+use Rattle.session_table.proofs.Verdicts.{passed, passed-both, is-done, is-refused, keeps-bytes}
 
 abbrev pub readyFound : List ℕ → ℕ → ℕ → Found
 readyFound b p t = find (number b maxAt) (λ s. isReady p t (slotOf b s))
@@ -46,6 +56,21 @@ module _ (b : List ℕ) (p t room : ℕ) where
 
     pub collect-0 : s < number b maxAt → length (reply (slotOf b s)) ≤ room → verdict 0 ≡ only (collecting b p t room)
     collect-0 l k = rw (← (collect-is l k))
+
+  -- the two halves together: no refusal, or the one that was found and no byte changed
+  module _ (no : ℕ) (said : verdict no ≡ only (collecting b p t room)) where
+    pub collect-passes : no ≡ 0 → only (collecting b p t room) ≡ done tt
+    collect-passes = is-done (collecting b p t room) no said
+
+    pub collect-refuses : (out : List ℕ) (f : Refusal) → room ≡ length out → f ≡ refusal no 0 → (no ≡ 0 → ⊥) → Collects b p t out (NotCollected f) b out
+    unfolding paperCollected collectedBytes collectedOut
+    collect-refuses out f q r d =
+        let e = is-refused (collecting b p t room) no said d in
+        record {
+          answer = rw (← q, e, r);
+          table = rw (← q) (keeps-bytes (collecting b p t room) no said b _ d);
+          output = rw (← q) (keeps-bytes (collecting b p t room) no said out _ d);
+        }
 
   -- what is known where there is no refusal
   pub record Collectable : Type 0 where
@@ -94,3 +119,43 @@ module _ (b : List ℕ) (p t room : ℕ) where
     pub collect-leaves : collectedAt b s ≡ collectedBytes b p t room
     unfolding collectedBytes
     collect-leaves = rw (← collect-done) (ap (collectedAt b) found)
+
+-- the session that is collected, on its bytes
+module _ (b : List ℕ) (p t : ℕ) (sound : soundBytes b ≡ true) (low : 1 ≤ p) (s : ℕ) (found : s ≡ readyIn b p t) (below : s < number b maxAt) where
+  facts : (slotOf b s .program ≡ p) × (slotOf b s .ticket ≡ t) × (length (slotOf b s .answers) ≡ slotOf b s .count)
+  facts = is-ready p t (slotOf b s) (find-at (λ i. isReady p t (slotOf b i)) (number b maxAt) (found-at (readyFound b p t) found below) .1)
+
+  pub ready-stands : Stands b sound s
+  ready-stands = stands b sound (λ x. x .program) refl s (omega (arith, facts .0))
+
+  module _ (h : Head) (q : h ≡ headOf b s) where
+    all-answered : h .count ≡ number b (answeredAt s)
+    unfolding headOf
+    all-answered =
+        let e = ready-stands .held in
+        omega (arith, ap (λ x. x .count) q, ap (λ x. x .count) e, ap (λ x. length (x .answers)) e, answers-held b s, facts .2)
+
+    pub ready-few : h .count ≤ commands
+    unfolding headOf
+    ready-few = omega (arith, ap (λ x. x .count) q, ap (λ x. x .count) (ready-stands .held), ready-stands .session .count-high)
+
+    pub ready-reply : replyOf b s (h .count) ≡ reply (slotOf b s)
+    unfolding replyOf
+    ready-reply = rw (all-answered, ready-stands .held)
+
+    pub ready-real : all (h .count) (λ i. isReal (entryOf b s (i + 1))) ≡ true
+    ready-real =
+        rw all-answered
+        (sym (all-real (number b (answeredAt s)) (λ i. entryOf b s (i + 1))) ∙ sym (ap (λ x. allReal (x .answers)) (ready-stands .held)) ∙ ready-stands .session .answers-real)
+
+-- what was written, and the number open again, are what collecting leaves
+pub collects-is : (b : List ℕ) (p t : ℕ) (out : List ℕ) (w : Collectable b p t (length out)) (s : ℕ) → s ≡ readyIn b p t → (bs f e : List ℕ) {n : ℕ}
+    → bs ≡ reply (slotOf b s) → Wrote out 0 bs f n → e ≡ collectedAt b s → Collects b p t out (Written n) e f
+unfolding paperCollected collectedOut
+collects-is b p t out w s found bs f e q v r =
+    let d = collect-done b p t (length out) w s found in
+    record {
+      answer = rw (← d) (ap done (omega (arith, v .next, ap length q)));
+      table = r ∙ collect-leaves b p t (length out) w s found;
+      output = rw (← d) (v .bytes ∙ ap (put out 0) q);
+    }

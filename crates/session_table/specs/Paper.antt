@@ -3,6 +3,8 @@ use Prim.Native.Nat.{ℕ}
 use Rattle.counts.specs.Result.{Result, refused, done}
 use Rattle.session_table.specs.declared.Answered.{Answered}
 use Rattle.session_table.specs.declared.Answered.the-variants.{Accepted, Refused as NotAnswered}
+use Rattle.session_table.specs.declared.Collected.{Collected}
+use Rattle.session_table.specs.declared.Collected.the-variants.{Written, Refused as NotCollected}
 use Rattle.session_table.specs.declared.Made.{Made}
 use Rattle.session_table.specs.declared.Made.the-variants.{Fresh, Refused as NotMade}
 use Rattle.session_table.specs.declared.Placed.{Placed}
@@ -29,3 +31,8 @@ paperTakenUp (NotTakenUp f) = refused (f .number) (f .place)
 unfoldable pub paperAnswered : Answered → Result (Unit {0})
 paperAnswered Accepted = done tt
 paperAnswered (NotAnswered f) = refused (f .number) (f .place)
+
+-- the bytes written
+unfoldable pub paperCollected : Collected → Result ℕ
+paperCollected (Written n) = done n
+paperCollected (NotCollected f) = refused (f .number) (f .place)

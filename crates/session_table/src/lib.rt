@@ -14,10 +14,11 @@ use counts::Refusal;
 use counts::SESSIONS;
 use counts::SessionNumber;
 use counts::TICKET_MOST;
+use counts::TOO_LITTLE_ROOM;
 use counts::Ticket;
 use counts::UNSOUND;
+use record::Outcome;
 use sessions::Answer;
-use sessions::Outcome;
 use table_layout::Head;
 use table_layout::Table;
 use table_layout::clear;
@@ -27,13 +28,15 @@ use table_layout::put_hand;
 use table_layout::put_head;
 use table_layout::put_last;
 use table_layout::put_mark;
+use table_layout::put_program;
 use table_layout::put_table;
+use table_reply::reply_length;
+use table_reply::write_reply;
 use table_search::in_turn;
 use table_search::lowest_open;
 use table_search::next_waiting;
+use table_search::ready_session;
 use table_slot::answer_slot;
-use table_sound::is_dated;
-use table_sound::is_outcome;
 use table_sound::is_sound;
 ghost use mathlib.Core.Path.{_≡_};
 ghost use mathlib.Core.Bool.{_&&_, true};
@@ -45,7 +48,8 @@ ghost use Rattle.sessions.specs.Table.{within, isWaiting, given as givenBy};
 ghost use Rattle.table_layout.specs.Layout.{number, handAt};
 ghost use Rattle.table_sound.specs.Bytes.{handOf, slotOf, abs, soundBytes};
 ghost use Rattle.session_table.specs.Paper.{paperMade, paperPlaced, paperTakenUp, paperAnswered};
-ghost use Rattle.session_table.specs.Calls.{namesHand, verdict, only, making, madeBytes, placing, placedBytes, takingUp, takenBytes, answering, answeredBytes};
+ghost use Rattle.session_table.specs.Calls.{namesHand, verdict, only, making, madeBytes, placing, placedBytes, takingUp, takenBytes, answering, answeredBytes, collecting};
+ghost use Rattle.session_table.specs.Collect.{Collects};
 
 pub enum Made {
     Fresh,
@@ -64,6 +68,11 @@ pub enum TakenUp {
 
 pub enum Answered {
     Accepted,
+    Refused(Refusal),
+}
+
+pub enum Collected {
+    Written(usize),
     Refused(Refusal),
 }
 
@@ -235,9 +244,13 @@ fn answer_refusal(b: &[u8], ticket: Ticket, command: CommandNumber, a: Answer) -
 {
     if is_sound(b) {
         if names_hand(b, ticket, command) {
-            if is_dated(a) {
+            if record::is_real(a.date, a.time) {
                 let o = a.outcome;
-                if is_outcome(o) { 0 } else { NOT_A_RECORD }
+                if record::is_outcome(o) {
+                    0
+                } else {
+                    NOT_A_RECORD
+                }
             } else {
                 NOT_REAL
             }
@@ -280,4 +293,50 @@ pub fn answer(
         return answer_now(b, ticket, command, a);
     }
     Answered::Refused(Refusal::plain(no))
+}
+
+fn collect_refusal(b: &[u8], program: u32, ticket: Ticket, room: usize) -> u32
+    ensures { λ r. ⌜ verdict r ≡ only (collecting (now (b .entry)) program (ticket .0) room) ⌝ }
+{
+    if is_sound(b) {
+        if (1 <= program) & (program <= PROGRAMS) {
+            let s = ready_session(b, program, ticket);
+            if s < get_table(b).max {
+                let n = get_head(b, SessionNumber(s)).count;
+                if reply_length(b, SessionNumber(s), n) <= room {
+                    0
+                } else {
+                    TOO_LITTLE_ROOM
+                }
+            } else {
+                NOT_THE_ONE
+            }
+        } else {
+            OUT_OF_RANGE
+        }
+    } else {
+        UNSOUND
+    }
+}
+
+fn collect_now(b: &mut [u8], program: u32, ticket: Ticket, out: &mut [u8]) -> Collected
+    requires { ⌜ only (collecting (now b) program (ticket .0) (length (now out))) ≡ done tt ⌝ }
+    ensures { λ r. ⌜ Collects (now (b .entry)) program (ticket .0) (now (out .entry)) r (now (b .exit)) (now (out .exit)) ⌝ }
+{
+    let s = ready_session(b, program, ticket);
+    let n = get_head(b, SessionNumber(s)).count;
+    let written = write_reply(b, SessionNumber(s), n, out);
+    put_program(b, SessionNumber(s), 0);
+    Collected::Written(written)
+}
+
+// Writes the reply of a closed session, and opens its number. Output beyond the reply stays.
+pub fn collect(b: &mut [u8], program: u32, ticket: Ticket, out: &mut [u8]) -> Collected
+    ensures { λ r. ⌜ Collects (now (b .entry)) program (ticket .0) (now (out .entry)) r (now (b .exit)) (now (out .exit)) ⌝ }
+{
+    let no = collect_refusal(b, program, ticket, out.len());
+    if no == 0 {
+        return collect_now(b, program, ticket, out);
+    }
+    Collected::Refused(Refusal::plain(no))
 }

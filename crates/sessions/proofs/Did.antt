@@ -11,7 +11,8 @@ use Rattle.counts.specs.Refusals.{notReal, notARecord, tooLittleRoom, allTaken,
 use Rattle.sessions.specs.Find.{Found, none, at}
 use Rattle.sessions.specs.History.{Call, toPlace, toTakeUp, toAnswer, toCollect, Event, placed, tookUp, answered, collected, step}
 use Rattle.sessions.specs.declared.Answer.{Answer}
-use Rattle.sessions.specs.Records.{isOutcome, isDated}
+use Rattle.record.specs.Record.{isOutcome}
+use Rattle.sessions.specs.Records.{isDated}
 use Rattle.sessions.specs.Sound.{isReal}
 use Rattle.counts.specs.Result.{Result, refused, done}
 use Rattle.sessions.specs.Table.{State, within, isOpen, afterPlace, placeIn, place, isWaiting, lowest, turn, given, afterTakeUp, takeNext, takeHand, takeUp, names, afterAnswer, answerHand, answer, reply, afterCollect, collectFrom, collect, isReady}

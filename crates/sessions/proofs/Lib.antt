@@ -9,4 +9,3 @@ pub mod Agrees
 pub mod Answers
 pub mod Past
 pub mod Claims
-pub mod Carried

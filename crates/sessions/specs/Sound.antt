@@ -6,7 +6,8 @@ use lib.Dec.{eqb, leb, ltb}
 use lib.ListN.{length}
 use Rattle.counts.specs.Limits.{commands, programs, sessions, ticketMost}
 use Rattle.sessions.specs.Find.{Found, none, at, all}
-use Rattle.sessions.specs.Records.{isOutcome, isDated}
+use Rattle.record.specs.Record.{isOutcome}
+use Rattle.sessions.specs.Records.{isDated}
 use Rattle.sessions.specs.Table.{Slot, State, within, isOpen, isWaiting}
 use Rattle.sessions.specs.declared.Answer.{Answer}
 

@@ -8,7 +8,8 @@ use Rattle.counts.specs.Limits.{commands, programs, ticketMost}
 use Rattle.counts.specs.Refusals.{notReal, notARecord, tooLittleRoom, allTaken, notTheOne, outOfRange, noTicketLeft, nothingUnanswered}
 use Rattle.counts.specs.Result.{Result, refused, done}
 use Rattle.sessions.specs.Find.{Found, none, at, find, put}
-use Rattle.sessions.specs.Records.{isOutcome, isDated, recordBytes}
+use Rattle.record.specs.Record.{isOutcome}
+use Rattle.sessions.specs.Records.{isDated, recordOf}
 use Rattle.sessions.specs.declared.Answer.{Answer}
 
 -- A session: whose it is, how many commands, its ticket, and the answers accepted so far. Program 0: the number is open.
@@ -127,7 +128,7 @@ numbered k (a ∷ l) = (k, a) ∷ numbered (suc k) l
 
 unfoldable pub records : List (ℕ × Answer) → List ℕ
 records [] = []
-records (x ∷ xs) = recordBytes (x .0) (x .1) ++ records xs
+records (x ∷ xs) = recordOf (x .0) (x .1) ++ records xs
 
 abbrev pub reply : Slot → List ℕ
 reply x = records (numbered 1 (x .answers))

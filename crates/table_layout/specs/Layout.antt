@@ -6,8 +6,8 @@ use lib.Dec.{eqb}
 use Rattle.counts.specs.Limits.{commands, sessions}
 use Rattle.field.specs.Number.{getW, putW}
 use Rattle.sessions.specs.declared.Answer.{Answer}
-use Rattle.sessions.specs.declared.Outcome.{Outcome}
-use Rattle.sessions.specs.declared.Outcome.the-variants.{Processed, Error}
+use Rattle.record.specs.declared.Outcome.{Outcome}
+use Rattle.record.specs.declared.Outcome.the-variants.{Processed, Error}
 use Rattle.table_layout.specs.declared.Head.{Head}
 use Rattle.table_layout.specs.declared.Table.{Table}
 

@@ -1,8 +1,4 @@
 // Whether lent bytes are a sound session table, for any bytes of any length.
-use calendar::is_real_date;
-use calendar::is_real_time;
-use counts::CLASS_MOST;
-use counts::CODE_MOST;
 use counts::COMMANDS;
 use counts::CommandNumber;
 use counts::PROGRAMS;
@@ -11,7 +7,6 @@ use counts::SessionNumber;
 use counts::TICKET_MOST;
 use counts::Ticket;
 use sessions::Answer;
-use sessions::Outcome;
 use table_layout::Table;
 use table_layout::get_entry;
 use table_layout::get_head;
@@ -20,10 +15,8 @@ ghost use mathlib.Core.Path.{_≡_};
 ghost use mathlib.Core.Bool.{_&&_};
 ghost use Prim.Native.Nat.{_+_, _<_, _≤_};
 ghost use lib.ListN.{length};
-ghost use lib.Dec.{leb};
-ghost use Rattle.counts.specs.Limits.{classMost, codeMost, commands, sessions};
+ghost use Rattle.counts.specs.Limits.{commands, sessions};
 ghost use Rattle.sessions.specs.Find.{all};
-ghost use Rattle.sessions.specs.Records.{isDated, isOutcome};
 ghost use Rattle.sessions.specs.Sound.{maxInRange, markBelow, headSound, differs, isReal, slotSound, handSound};
 ghost use Rattle.sessions.specs.Table.{isOpen, isWaiting};
 ghost use Rattle.table_layout.specs.Layout.{tableBytes, handAt, number, entryOf};
@@ -93,32 +86,11 @@ fn is_new(b: &[u8], s: SessionNumber, t: Ticket) -> bool
     true
 }
 
-pub fn is_dated(a: Answer) -> bool
-    ensures { λ r. ⌜ r ≡ isDated a ⌝ }
-{
-    is_real_date(a.date) & is_real_time(a.time)
-}
-
-fn may_stand(class: u32, code: u32) -> bool
-    ensures { λ r. ⌜ r ≡ (leb class classMost && leb code codeMost) ⌝ }
-{
-    (class <= CLASS_MOST) & (code <= CODE_MOST)
-}
-
-pub fn is_outcome(o: Outcome) -> bool
-    ensures { λ r. ⌜ r ≡ isOutcome o ⌝ }
-{
-    match o {
-        Outcome::Processed => true,
-        Outcome::Error(class, code) => may_stand(class, code),
-    }
-}
-
 fn is_real(a: Answer) -> bool
     ensures { λ r. ⌜ r ≡ isReal a ⌝ }
 {
     let o = a.outcome;
-    is_dated(a) & is_outcome(o)
+    record::is_real(a.date, a.time) & record::is_outcome(o)
 }
 
 // Whether each of the first n answers of the session is in range with a real date and time.

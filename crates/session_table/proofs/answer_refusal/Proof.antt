@@ -10,20 +10,20 @@ is-sound-requires c κs = search needs
 names-hand-requires : tie.Need-names-hand-requires
 names-hand-requires c κs = sym (c .before .is-sound .ensures) ∙ c .if1 .taken
 
-is-dated-requires : tie.Need-is-dated-requires
-is-dated-requires c κs = search needs
+is-real-requires : tie.Need-is-real-requires
+is-real-requires c κs = search needs
 
 is-outcome-requires : tie.Need-is-outcome-requires
 is-outcome-requires c κs = search needs
 
 returns : tie.Need-returns
-returns c = answer-0 _ _ _ _ (sym (c .before .before .before .before .before .before .before .is-sound .ensures) ∙ c .before .before .before .before .before .before .if1 .taken) (sym (c .before .before .before .before .before .names-hand .ensures) ∙ c .before .before .before .before .if2 .taken) (sym (c .before .before .before .is-dated .ensures) ∙ c .before .before .if3 .taken) (sym (c .before .is-outcome .ensures) ∙ c .if4 .taken)
+returns c = answer-0 _ _ _ _ (sym (c .before .before .before .before .before .before .before .is-sound .ensures) ∙ c .before .before .before .before .before .before .if1 .taken) (sym (c .before .before .before .before .before .names-hand .ensures) ∙ c .before .before .before .before .if2 .taken) (sym (c .before .before .before .is-real .ensures) ∙ c .before .before .if3 .taken) (sym (c .before .is-outcome .ensures) ∙ c .if4 .taken)
 
 returns-2 : tie.Need-returns-2
-returns-2 c = answer-7 _ _ _ _ (sym (c .before .before .before .before .before .before .before .is-sound .ensures) ∙ c .before .before .before .before .before .before .if1 .taken) (sym (c .before .before .before .before .before .names-hand .ensures) ∙ c .before .before .before .before .if2 .taken) (sym (c .before .before .before .is-dated .ensures) ∙ c .before .before .if3 .taken) (sym (c .before .is-outcome .ensures) ∙ c .if4 .left)
+returns-2 c = answer-7 _ _ _ _ (sym (c .before .before .before .before .before .before .before .is-sound .ensures) ∙ c .before .before .before .before .before .before .if1 .taken) (sym (c .before .before .before .before .before .names-hand .ensures) ∙ c .before .before .before .before .if2 .taken) (sym (c .before .before .before .is-real .ensures) ∙ c .before .before .if3 .taken) (sym (c .before .is-outcome .ensures) ∙ c .if4 .left)
 
 returns-3 : tie.Need-returns-3
-returns-3 c = answer-5 _ _ _ _ (sym (c .before .before .before .before .before .is-sound .ensures) ∙ c .before .before .before .before .if1 .taken) (sym (c .before .before .before .names-hand .ensures) ∙ c .before .before .if2 .taken) (sym (c .before .is-dated .ensures) ∙ c .if3 .left)
+returns-3 c = answer-5 _ _ _ _ (sym (c .before .before .before .before .before .is-sound .ensures) ∙ c .before .before .before .before .if1 .taken) (sym (c .before .before .before .names-hand .ensures) ∙ c .before .before .if2 .taken) (sym (c .before .is-real .ensures) ∙ c .if3 .left)
 
 returns-4 : tie.Need-returns-4
 returns-4 c = answer-10 _ _ _ _ (sym (c .before .before .before .is-sound .ensures) ∙ c .before .before .if1 .taken) (sym (c .before .names-hand .ensures) ∙ c .if2 .left)
@@ -37,7 +37,7 @@ answer-refusal-spec =
     (tie.spec
     is-sound-requires
     names-hand-requires
-    is-dated-requires
+    is-real-requires
     is-outcome-requires
     returns
     returns-2

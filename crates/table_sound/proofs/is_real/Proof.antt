@@ -4,8 +4,8 @@ use borrow.Author.Needs.{needs}
 use Rattle.table_sound.proofs.is_real.Statement.{statement}
 use Rattle.table_sound.proofs.is_real.Tie as tie
 
-is-dated-requires : tie.Need-is-dated-requires
-is-dated-requires c κs = search needs
+is-real-requires : tie.Need-is-real-requires
+is-real-requires c κs = search needs
 
 is-outcome-requires : tie.Need-is-outcome-requires
 is-outcome-requires c κs = search needs
@@ -15,4 +15,4 @@ unfolding isReal
 returns c = search choose
 
 pub is-real-spec : {M : Type 1} → statement M
-is-real-spec = tie.close (tie.spec is-dated-requires is-outcome-requires returns)
+is-real-spec = tie.close (tie.spec is-real-requires is-outcome-requires returns)

@@ -1,0 +1,9 @@
+-- The records of a session's first n answers, in order, as they stand in a table's bytes. Assumes nothing.
+use Prim.Native.Nat.{ℕ, _+_}
+use mathlib.Core.List.{List}
+use Rattle.sessions.specs.Find.{first}
+use Rattle.sessions.specs.Table.{numbered, records}
+use Rattle.table_layout.specs.Layout.{entryOf}
+
+unfoldable pub replyOf : List ℕ → ℕ → ℕ → List ℕ
+replyOf b s n = records (numbered 1 (first n (λ i. entryOf b s (i + 1))))
