@@ -6,21 +6,22 @@ use mathlib.Core.Bool.{Bool, true, false, cond, _&&_}
 use mathlib.Core.List.{List}
 use lib.Dec.{eqb, leb, ltb}
 use lib.ListN.{length}
-use borrow.Author.Tests.{eq-eqb, ne-eqb, eqb-true, eqb-false, lt-ltb, le-ltb, ltb-true, ltb-false}
+use borrow.Author.Tests.{eq-eqb, ne-eqb, eqb-true, eqb-false, lt-ltb, le-ltb, ltb-true, ltb-false, le-leb, lt-leb, leb-true, leb-false}
 use Rattle.counts.specs.Limits.{commands, programs, sessions, ticketMost}
-use Rattle.counts.specs.Refusals.{notReal, notARecord, allTaken, notTheOne, outOfRange, noTicketLeft, unsound, nothingUnanswered}
+use Rattle.counts.specs.Refusals.{notReal, notARecord, tooLittleRoom, allTaken, notTheOne, outOfRange, noTicketLeft, unsound, nothingUnanswered}
 use Rattle.counts.specs.Result.{Result, refused, done}
 use Rattle.counts.specs.declared.Refusal.{Refusal}
 use Rattle.counts.proofs.Results.{refused-not-done, same-refusal}
 use Rattle.sessions.specs.Find.{Found, none, at, find}
 use Rattle.record.specs.Record.{isOutcome}
 use Rattle.sessions.specs.Records.{isDated}
-use Rattle.sessions.specs.Table.{State, within, isOpen, isWaiting, turn, lowest, names, placeIn, place, takeNext, takeHand, takeUp, answerHand, answer}
+use Rattle.sessions.specs.Table.{State, within, isOpen, isWaiting, turn, lowest, names, isReady, reply, placeIn, place, takeNext, takeHand, takeUp, answerHand, answer, collectFrom, collect}
 use Rattle.sessions.specs.declared.Answer.{Answer}
 use Rattle.table_layout.specs.Layout.{tableBytes}
 use Rattle.table_sound.specs.Bytes.{abs, soundBytes}
-use Rattle.session_table.specs.Calls.{ifSound, after, making, madeBytes, placing, placedAt, placedBytes, takingUp, takenAt, takenBytes, answering, answeredAs, answeredBytes}
-use Rattle.session_table.specs.Paper.{paperMade, paperPlaced, paperTakenUp, paperAnswered}
+use Rattle.session_table.specs.Calls.{ifSound, after, making, madeBytes, placing, placedAt, placedBytes, takingUp, takenAt, takenBytes, answering, answeredAs, answeredBytes, collecting, collectedBytes, collectedOut}
+use Rattle.session_table.specs.Collect.{Collects}
+use Rattle.session_table.specs.Paper.{paperMade, paperPlaced, paperTakenUp, paperAnswered, paperCollected}
 use Rattle.session_table.specs.declared.Made.{Made}
 use Rattle.session_table.specs.declared.Made.the-variants.{Fresh, Refused as NotMade}
 use Rattle.session_table.specs.declared.Placed.{Placed}
@@ -29,6 +30,8 @@ use Rattle.session_table.specs.declared.TakenUp.{TakenUp}
 use Rattle.session_table.specs.declared.TakenUp.the-variants.{Given, Refused as NotTakenUp}
 use Rattle.session_table.specs.declared.Answered.{Answered}
 use Rattle.session_table.specs.declared.Answered.the-variants.{Accepted, Refused as NotAnswered}
+use Rattle.session_table.specs.declared.Collected.{Collected}
+use Rattle.session_table.specs.declared.Collected.the-variants.{Written, Refused as NotCollected}
 
 -- ---- the rows, one statement a call: what stands before a condition has been tested and passed
 
@@ -75,6 +78,19 @@ pub data AnswerRow (b : List ℕ) (σ : State) (t c : ℕ) (a : Answer) : Result
       → AnswerRow b σ t c a (refused notARecord 0)
   answered : (s : ℕ) → soundBytes b ≡ true → σ .hand ≡ at s → names (σ .slot s) t c ≡ true → isDated a ≡ true → isOutcome (a .outcome) ≡ true
       → AnswerRow b σ t c a (done tt)
+
+-- collect: "needs a closed session of that program and ticket. Order 13, 11 (program), 10 (ticket 0 too), 8"
+abbrev pub closed : State → ℕ → ℕ → Found
+closed σ p t = find (σ .max) (λ s. isReady p t (σ .slot s))
+
+pub data CollectRow (b : List ℕ) (σ : State) (p t room : ℕ) : Result (List ℕ) → Type 0 where
+  thirteen : soundBytes b ≡ false → CollectRow b σ p t room (refused unsound 0)
+  eleven : soundBytes b ≡ true → within 1 p programs ≡ false → CollectRow b σ p t room (refused outOfRange 0)
+  ten : soundBytes b ≡ true → within 1 p programs ≡ true → closed σ p t ≡ none → CollectRow b σ p t room (refused notTheOne 0)
+  eight : (s : ℕ) → soundBytes b ≡ true → within 1 p programs ≡ true → closed σ p t ≡ at s → room < length (reply (σ .slot s))
+      → CollectRow b σ p t room (refused tooLittleRoom 0)
+  collected : (s : ℕ) → soundBytes b ≡ true → within 1 p programs ≡ true → closed σ p t ≡ at s → length (reply (σ .slot s)) ≤ room
+      → CollectRow b σ p t room (done (reply (σ .slot s)))
 
 -- a call says v exactly when a row does
 abbrev pub Exactly : {A : Type 0} → Result A → (Result A → Type 0) → Type 0
@@ -157,6 +173,27 @@ answer-exactly b t c x = (go (soundBytes b) (abs b .hand) refl refl, is)
     is v (seven s a h e f g) = rw (a, h, e, f, g)
     is v (answered s a h e f g) = rw (a, h, e, f, g)
 
+pub collect-exactly : (b : List ℕ) (p t room : ℕ) → Exactly (collecting b p t room) (CollectRow b (abs b) p t room)
+unfolding collecting collect collectFrom
+collect-exactly b p t room = (go (soundBytes b) (within 1 p programs) (closed (abs b) p t) refl refl refl, is)
+  where
+    fits : (s : ℕ) (u : Bool) → soundBytes b ≡ true → within 1 p programs ≡ true → closed (abs b) p t ≡ at s → leb (length (reply (abs b .slot s))) room ≡ u
+        → CollectRow b (abs b) p t room (collectFrom (abs b) room (at s) .0)
+    fits s true a c d e = rw e (collected s a c d (leb-true _ _ e))
+    fits s false a c d e = rw e (eight s a c d (leb-false _ _ e))
+    go : (u w : Bool) (f : Found) → soundBytes b ≡ u → within 1 p programs ≡ w → closed (abs b) p t ≡ f
+        → CollectRow b (abs b) p t room (cond u (cond w (collectFrom (abs b) room f) (refused outOfRange 0, abs b) .0) (refused unsound 0))
+    go false w f a c d = thirteen a
+    go true false f a c d = eleven a c
+    go true true none a c d = ten a c d
+    go true true (at s) a c d = fits s (leb (length (reply (abs b .slot s))) room) a c d refl
+    is : (v : Result (List ℕ)) → CollectRow b (abs b) p t room v → collecting b p t room ≡ v
+    is v (thirteen a) = rw a
+    is v (eleven a c) = rw (a, c)
+    is v (ten a c d) = rw (a, c, d)
+    is v (eight s a c d e) = rw (a, c, d, lt-leb _ _ e)
+    is v (collected s a c d e) = rw (a, c, d, le-leb _ _ e)
+
 -- ---- a refused call leaves every byte as it was: one law for all calls, whose bytes at exit are `after` their answer
 
 refused-keeps : {A : Type 0} (x : Result A) (b : List ℕ) (f : A → List ℕ) (number place : ℕ) → x ≡ refused number place → after x b f ≡ b
@@ -177,6 +214,11 @@ take-up-refused-keeps b number place = refused-keeps (takingUp b) b _ number pla
 pub answer-refused-keeps : (b : List ℕ) (t c : ℕ) (x : Answer) (number place : ℕ) → answering b t c x ≡ refused number place → answeredBytes b t c x ≡ b
 unfolding answeredBytes
 answer-refused-keeps b t c x number place = refused-keeps (answering b t c x) b _ number place
+
+pub collect-refused-keeps : (b : List ℕ) (p t : ℕ) (out : List ℕ) (number place : ℕ) → collecting b p t (length out) ≡ refused number place
+    → (collectedBytes b p t (length out) ≡ b) × (collectedOut b p t out ≡ out)
+unfolding collectedBytes collectedOut
+collect-refused-keeps b p t out number place e = (rw e, rw e)
 
 -- ---- the paper's value of an answer loses nothing, so two results that meet a contract are equal
 
@@ -212,6 +254,13 @@ answered-all Accepted (NotAnswered r) h = absurd (refused-not-done (sym h))
 answered-all (NotAnswered r) Accepted h = absurd (refused-not-done h)
 answered-all (NotAnswered r) (NotAnswered t) h = ap NotAnswered (same-refusal (cc) (cc))
 
+collected-all : (a b : Collected) → paperCollected a ≡ paperCollected b → a ≡ b
+unfolding paperCollected
+collected-all (Written n) (Written m) h = ap Written (cc)
+collected-all (Written n) (NotCollected r) h = absurd (refused-not-done (sym h))
+collected-all (NotCollected r) (Written n) h = absurd (refused-not-done h)
+collected-all (NotCollected r) (NotCollected t) h = ap NotCollected (same-refusal (cc) (cc))
+
 -- a contract of the shape that every call of the table has: the answer's paper value, and the bytes at exit
 abbrev pub Meets : {A B : Type 0} → (A → B) → B → List ℕ → A → List ℕ → Type 0
 Meets says v bytes r exit = (says r ≡ v) × (exit ≡ bytes)
@@ -234,3 +283,9 @@ take-up-determined = one-result paperTakenUp taken-up-all
 
 pub answer-determined : OneResult paperAnswered
 answer-determined = one-result paperAnswered answered-all
+
+-- collect is lent two memories, and its contract says both
+pub collect-determined : (b : List ℕ) (p t : ℕ) (out : List ℕ) (r r′ : Collected) (exit exit′ out-exit out-exit′ : List ℕ)
+    → Collects b p t out r exit out-exit → Collects b p t out r′ exit′ out-exit′ → (r ≡ r′) × (exit ≡ exit′) × (out-exit ≡ out-exit′)
+collect-determined b p t out r r′ exit exit′ out-exit out-exit′ x y =
+    (collected-all r r′ (x .answer ∙ sym (y .answer)), x .table ∙ sym (y .table), x .output ∙ sym (y .output))

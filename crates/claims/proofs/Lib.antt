@@ -1,3 +1,4 @@
 pub mod Examples
 pub mod Demand1Names
 pub mod Demand1Table
+pub mod StandIns

@@ -1,8 +1,11 @@
-// Runs the examples: each argument names a file of data/, which is read as a job file, and a line says what it read as. The files are document
-// 01's examples that are not proved, the traps, the places where two readers could differ, and the job files of EUROMAP 63's worked examples.
+// Runs the examples: each argument names a file of data/, which is read as a record where its name ends with .rec and else as a job file, and a
+// line says what it read as. The files are document 01's examples that are not proved, the traps, the places where two readers could differ, and
+// the job files and records of EUROMAP 63's worked examples with their scan damage mended.
 use io::print_decimal;
 use io::write_all;
 use job::JobAnswer;
+use record::Outcome;
+use record::RecordRead;
 use libc::STDOUT_FILENO;
 
 fn print_number(n: u64) {
@@ -41,11 +44,54 @@ fn run_job(file: &[u8]) {
     }
 }
 
-fn run_file(fd: i32) {
+fn print_outcome(outcome: Outcome) {
+    match outcome {
+        Outcome::Processed => {
+            write_all(STDOUT_FILENO, b" PROCESSED");
+        }
+        Outcome::Error(class, code) => {
+            write_all(STDOUT_FILENO, b" ERROR");
+            print_number(class as u64);
+            print_number(code as u64);
+        }
+    }
+}
+
+fn run_record(bytes: &[u8]) {
+    match record::read_record(bytes) {
+        RecordRead::Taken(read) => {
+            write_all(STDOUT_FILENO, b" record");
+            print_number(read.number.0 as u64);
+            let outcome = read.outcome;
+            print_outcome(outcome);
+            write_all(STDOUT_FILENO, b" text");
+            print_number(record::record_text(bytes).len() as u64);
+            write_all(STDOUT_FILENO, b" date");
+            print_number(read.date as u64);
+            write_all(STDOUT_FILENO, b" time");
+            print_number(read.time as u64);
+        }
+        RecordRead::Refused(refusal) => print_refusal(refusal.number, refusal.place),
+    }
+}
+
+fn run_file(fd: i32, is_record: bool) {
     let mut file = io::large_buffer();
     let n = io::read_full(fd, &mut file);
-    run_job(&file[..n]);
+    if is_record {
+        run_record(&file[..n]);
+    } else {
+        run_job(&file[..n]);
+    }
     write_all(STDOUT_FILENO, b"\n");
+}
+
+// Whether a file's name ends with .rec.
+fn is_record(name: &[u8]) -> bool {
+    if name.len() < 4 {
+        return false;
+    }
+    field::has_at(name, name.len() - 4, b".rec")
 }
 
 // The example that argument i names.
@@ -58,7 +104,7 @@ fn run(i: usize) {
         return;
     }
     write_all(STDOUT_FILENO, &path[..n]);
-    run_file(fd);
+    run_file(fd, is_record(&path[..n]));
     libc::close(fd);
 }
 

@@ -1,0 +1,122 @@
+// Last month's fault, replayed on the session table, a line for each step: A's reply lies uncollected while B places a request. B is given another
+// number, A collects its own reply, and the old ticket is refused from then on.
+use counts::CommandNumber;
+use counts::Ticket;
+use io::print_decimal;
+use io::write_all;
+use libc::STDOUT_FILENO;
+use record::Outcome;
+use session_table::Answered;
+use session_table::Collected;
+use session_table::Made;
+use session_table::Placed;
+use session_table::TakenUp;
+use table_layout::Table;
+
+const A: u32 = 1;
+
+const B: u32 = 2;
+
+const DATE: u32 = 20240430;
+
+fn print_number(what: &[u8], n: u64) {
+    write_all(STDOUT_FILENO, what);
+    print_decimal(STDOUT_FILENO, n);
+}
+
+fn print_refusal(number: u32) {
+    print_number(b"refused with ", number as u64);
+    write_all(STDOUT_FILENO, b"\n");
+}
+
+fn make(table: &mut [u8]) {
+    write_all(STDOUT_FILENO, b"a fresh table of two sessions: ");
+    match session_table::make(table, 2) {
+        Made::Fresh => {
+            write_all(STDOUT_FILENO, b"made\n");
+        }
+        Made::Refused(r) => print_refusal(r.number),
+    }
+}
+
+fn place(who: &[u8], table: &mut [u8], program: u32, count: u32) {
+    write_all(STDOUT_FILENO, who);
+    print_number(b" places a request, commands: ", count as u64);
+    write_all(STDOUT_FILENO, b": ");
+    match session_table::place(table, program, count) {
+        Placed::At(s, t) => {
+            print_number(b"number ", s.0 as u64);
+            print_number(b", ticket ", t.0 as u64);
+            write_all(STDOUT_FILENO, b"\n");
+        }
+        Placed::Refused(r) => print_refusal(r.number),
+    }
+}
+
+fn take_up(table: &mut [u8]) {
+    write_all(STDOUT_FILENO, b"the machine takes up: ");
+    match session_table::take_up(table) {
+        TakenUp::Given(s, t, c) => {
+            print_number(b"number ", s.0 as u64);
+            print_number(b", ticket ", t.0 as u64);
+            print_number(b", command ", c.0 as u64);
+            write_all(STDOUT_FILENO, b"\n");
+        }
+        TakenUp::Refused(r) => print_refusal(r.number),
+    }
+}
+
+fn answer(table: &mut [u8], ticket: u32, command: u32, outcome: Outcome, time: u32) {
+    print_number(b"the machine answers command ", command as u64);
+    print_number(b" under ticket ", ticket as u64);
+    write_all(STDOUT_FILENO, b": ");
+    match session_table::answer(
+        table,
+        Ticket(ticket),
+        CommandNumber(command),
+        outcome,
+        DATE,
+        time,
+    ) {
+        Answered::Accepted => {
+            write_all(STDOUT_FILENO, b"accepted\n");
+        }
+        Answered::Refused(r) => print_refusal(r.number),
+    }
+}
+
+fn collect(who: &[u8], table: &mut [u8], program: u32, ticket: u32) {
+    write_all(STDOUT_FILENO, who);
+    print_number(b" collects under ticket ", ticket as u64);
+    write_all(STDOUT_FILENO, b": ");
+    let mut reply = io::buffer();
+    match session_table::collect(table, program, Ticket(ticket), &mut reply) {
+        Collected::Written(n) => {
+            print_number(b"", n as u64);
+            write_all(STDOUT_FILENO, b" bytes\n");
+            if n <= 4096 {
+                write_all(STDOUT_FILENO, &reply[..n]);
+            }
+        }
+        Collected::Refused(r) => print_refusal(r.number),
+    }
+}
+
+fn main() {
+    let mut table = [0u8; Table::SIZE];
+    make(&mut table);
+    place(b"A", &mut table, A, 2);
+    take_up(&mut table);
+    answer(&mut table, 1, 1, Outcome::Processed, 101500);
+    take_up(&mut table);
+    answer(&mut table, 1, 2, Outcome::Error(6, 16), 101532);
+    // A's request file is gone, and its reply lies uncollected. This is where B was given A's number.
+    place(b"B", &mut table, B, 1);
+    take_up(&mut table);
+    answer(&mut table, 2, 1, Outcome::Processed, 101601);
+    collect(b"A", &mut table, A, 1);
+    collect(b"A", &mut table, A, 1);
+    collect(b"B", &mut table, B, 2);
+    // Only now is A's number open again; the tickets go on.
+    place(b"B", &mut table, B, 1);
+}
