@@ -47,14 +47,14 @@ pub enum Written {
     Refused(Refusal),
 }
 
-// What the readers of a record's fields answer.
+// Reading: what the readers of a record's fields answer.
 
-pub enum FieldRead {
+enum FieldRead {
     Field(u32),
     NoField,
 }
 
-pub enum OutcomeRead {
+enum OutcomeRead {
     Found(Outcome, usize),
     NoOutcome,
 }
@@ -246,6 +246,8 @@ pub fn record_text(bytes: &[u8]) -> &[u8]
     &bytes[start..end]
 }
 
+// Writing.
+
 pub fn is_outcome(outcome: Outcome) -> bool
     ensures { λ r. ⌜ r ≡ isOutcome outcome ⌝ }
 {
@@ -329,9 +331,9 @@ fn put_error(out: &mut [u8], at: usize, class: u32, code: u32) -> usize
     requires { ⌜ (class ≤ classMost) × (code ≤ codeMost) × (at + 20 ≤ length (now out)) ⌝ }
     ensures { λ r. ⌜ Wrote (now (out .entry)) at (outcomeBytes (Outcome.Error class code)) (now (out .exit)) r ⌝ }
 {
-    let a = put_after(out, at, b" ERROR ", 2, class);
-    let b = put_after(out, a, b" ", 8, code);
-    field::put_bytes(out, b, b" \"")
+    let after_class = put_after(out, at, b" ERROR ", 2, class);
+    let after_code = put_after(out, after_class, b" ", 8, code);
+    field::put_bytes(out, after_code, b" \"")
 }
 
 // Writes the outcome, and the quote that opens the text.
@@ -350,11 +352,11 @@ fn put_moment(out: &mut [u8], at: usize, date: u32, time: u32) -> usize
     requires { ⌜ (date < 100000000) × (time < 1000000) × (at + momentLength ≤ length (now out)) ⌝ }
     ensures { λ r. ⌜ Wrote (now (out .entry)) at (momentBytes date time) (now (out .exit)) r ⌝ }
 {
-    let a = put_after(out, at, b"\" ", 8, date);
-    let b = put_after(out, a, b" ", 2, time / 10000);
-    let d = put_after(out, b, b":", 2, time / 100 % 100);
-    let e = put_after(out, d, b":", 2, time % 100);
-    field::put_bytes(out, e, b";\r\n")
+    let after_date = put_after(out, at, b"\" ", 8, date);
+    let after_hour = put_after(out, after_date, b" ", 2, time / 10000);
+    let after_minute = put_after(out, after_hour, b":", 2, time / 100 % 100);
+    let after_second = put_after(out, after_minute, b":", 2, time % 100);
+    field::put_bytes(out, after_second, b";\r\n")
 }
 
 // Writes a permitted record from at on, where there is room for it, and gives the place after it.
@@ -371,10 +373,10 @@ pub fn put_record(
     ensures { λ r. ⌜ Wrote (now (out .entry)) at (recordBytes (content (number .0) outcome (now (text .entry)) date time)) (now (out .exit)) r ⌝ }
 {
     let n = number.0;
-    let a = put_after(out, at, b"COMMAND ", decimal::plain_width(n as u64), n);
-    let b = put_outcome(out, a, outcome);
-    let d = field::put_bytes(out, b, text);
-    put_moment(out, d, date, time)
+    let after_number = put_after(out, at, b"COMMAND ", decimal::plain_width(n as u64), n);
+    let start = put_outcome(out, after_number, outcome);
+    let end = field::put_bytes(out, start, text);
+    put_moment(out, end, date, time)
 }
 
 // Writes a record at the start of out. Every other byte of out stays.
