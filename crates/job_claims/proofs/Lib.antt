@@ -1,3 +1,4 @@
 pub mod Tiles
 pub mod One
 pub mod Claims
+pub mod Statements
