@@ -10,7 +10,7 @@ use Rattle.grammar.specs.Productions.{Placed, Begins}
 use Rattle.grammar.specs.Reading.{State, move, moves}
 use Rattle.grammar.specs.Reading.State.{on, wrong}
 use Rattle.grammar.specs.Rows.{MayStand}
-use Rattle.grammar.proofs.Points.{finish}
+use Rattle.grammar.proofs.Ways.{finish}
 use Rattle.grammar.proofs.Moves.{Fine, fine, moves-append, moves-wrong, wrong≢on}
 use Rattle.grammar.proofs.Moves.Fine.{fresh, running}
 use Rattle.grammar.proofs.Files.{file-read, read-legal}

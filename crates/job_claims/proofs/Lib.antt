@@ -2,3 +2,4 @@ pub mod Tiles
 pub mod One
 pub mod Claims
 pub mod Statements
+pub mod Determined

@@ -19,7 +19,7 @@ use Rattle.grammar.specs.Grammar.{classNo}
 use Rattle.grammar.specs.Grammar.Class.{JOB}
 use Rattle.grammar.specs.Productions.{Placed}
 use Rattle.grammar.specs.Reading.{Answer}
-use Rattle.grammar.proofs.Points.{class-below}
+use Rattle.grammar.proofs.Ways.{class-below}
 use Rattle.item.specs.Tokens.{Next, itemOf, nextItem}
 use Rattle.item.specs.Tokens.Next.{item, ended, none}
 use Rattle.item.specs.Items.{endNo, noneNo, numbered, itemAt}

@@ -11,7 +11,7 @@ use Rattle.token.specs.declared.Operator.{Operator}
 use Rattle.grammar.specs.Grammar.{Class, classNo, isClass, shape}
 use Rattle.grammar.specs.Grammar.Class.{JOB, RESPONSE, UPLOAD, DOWNLOAD, GETINFO, ABORT, REPORT, EVENT, START, ACTIVE, IMMEDIATE, reserved, name, TIME≥, number, date, unrealDate, time, unrealTime, string, operator, semicolon}
 use Rattle.grammar.specs.Grammar.Point.{statement}
-use Rattle.grammar.proofs.Points.{class-below}
+use Rattle.grammar.proofs.Ways.{class-below}
 use Rattle.item.specs.Tokens.{Next}
 use Rattle.item.specs.Tokens.Next.{item, ended, none}
 use Rattle.item.specs.Items.{endNo, noneNo, itemAt}
