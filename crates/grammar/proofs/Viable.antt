@@ -4,7 +4,6 @@ use mathlib.Core.List.{List, [], _∷_, _++_, append-assoc}
 use mathlib.Core.Bool.{false, true≢false}
 use Prim.Native.Nat.{ℕ}
 use Rattle.grammar.specs.Grammar.{Class, Point, isPoint}
-use Rattle.grammar.specs.Grammar.Class.{JOB, RESPONSE, GETINFO, EVENT, ACTIVE, IMMEDIATE, name, number, time, string, operator, semicolon}
 use Rattle.grammar.specs.Grammar.Point.{first, between, statement, jobName, jobResponse, jobFile, moveFile, moveSource, moveStart, startKind, startTime, startDate, startOperator, startValue, infoFile, abortKind, abortName, ending, done, dead}
 use Rattle.grammar.specs.Productions.{Placed, Begins}
 use Rattle.grammar.specs.Reading.{State, move, moves}

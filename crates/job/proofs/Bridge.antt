@@ -1,7 +1,7 @@
 -- Reading statement by statement is reading the whole list of tokens through the points. Assumes nothing.
 use Prim.Native.Nat.{ℕ, zero, suc, _+_, _≤_, _<_}
 use mathlib.Core.Path.{_≡_, refl, sym, _∙_, ap, ap₂}
-use mathlib.Core.Bool.{Bool, true, false, true≢false, cond}
+use mathlib.Core.Bool.{Bool, true, false, cond}
 use mathlib.Core.List.{List, [], _∷_, _++_}
 use native.Mathlib.Omega.{arith}
 use borrow.Author.Tests.{lt-ltb, le-ltb, eq-eqb, ne-eqb}
@@ -9,10 +9,10 @@ use lib.Dec.{eqb, ltb}
 use lib.ListN.{length, length-append}
 use Rattle.counts.specs.Limits.{statements}
 use Rattle.counts.specs.Refusals.{noToken, unexpected, tooManyStatements}
-use Rattle.counts.specs.Result.Result.{refused, done as taken}
-use Rattle.grammar.specs.Grammar.{Class, Point, classNo, isClass, isPoint, shape}
+use Rattle.counts.specs.Result.Result.{refused}
+use Rattle.grammar.specs.Grammar.{Class, classNo, isClass, isPoint}
 use Rattle.grammar.specs.Grammar.Class.{JOB, RESPONSE, UPLOAD, DOWNLOAD, GETINFO, ABORT, REPORT, EVENT, START, ACTIVE, IMMEDIATE, reserved, name, TIME≥, number, date, unrealDate, time, unrealTime, string, operator, semicolon}
-use Rattle.grammar.specs.Grammar.Point.{first, between, statement, done}
+use Rattle.grammar.specs.Grammar.Point.{done}
 use Rattle.grammar.specs.Productions.{Placed}
 use Rattle.grammar.specs.Reading.{State, Last, Answer, opening, move, moves, atEnd, close, read}
 use Rattle.grammar.specs.Reading.State.{on, wrong}
