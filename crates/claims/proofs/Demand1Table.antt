@@ -181,12 +181,14 @@ collect-exactly b p t room = (go (soundBytes b) (within 1 p programs) (closed (a
         → CollectRow b (abs b) p t room (collectFrom (abs b) room (at s) .0)
     fits s true a c d e = rw e (collected s a c d (leb-true _ _ e))
     fits s false a c d e = rw e (eight s a c d (leb-false _ _ e))
+
     go : (u w : Bool) (f : Found) → soundBytes b ≡ u → within 1 p programs ≡ w → closed (abs b) p t ≡ f
         → CollectRow b (abs b) p t room (cond u (cond w (collectFrom (abs b) room f) (refused outOfRange 0, abs b) .0) (refused unsound 0))
     go false w f a c d = thirteen a
     go true false f a c d = eleven a c
     go true true none a c d = ten a c d
     go true true (at s) a c d = fits s (leb (length (reply (abs b .slot s))) room) a c d refl
+
     is : (v : Result (List ℕ)) → CollectRow b (abs b) p t room v → collecting b p t room ≡ v
     is v (thirteen a) = rw a
     is v (eleven a c) = rw (a, c)

@@ -2,12 +2,11 @@
 -- exactly when they are a production with its ;
 use mathlib.Core.Path.{_≡_, refl, sym, _∙_, ap, subst}
 use mathlib.Core.Logic.{_⊎_, inl, inr}
-use mathlib.Core.Bool.{Bool, true, false, true≢false, cond}
+use mathlib.Core.Bool.{Bool, true, false, cond}
 use mathlib.Core.List.{List, [], _∷_, _++_}
-use Prim.Native.Nat.{ℕ, _<_}
+use Prim.Native.Nat.{ℕ}
 use native.Mathlib.Omega.{arith}
 use borrow.Author.Tests.{eqb-true}
-use lib.Dec.{lit<}
 use Rattle.grammar.specs.Grammar.{Class, Point, Edge, next, look, step, walk, isClass, isPoint, classNo, classOf, pointNo, pointOf}
 use Rattle.grammar.specs.Grammar.Class.{JOB, RESPONSE, UPLOAD, DOWNLOAD, GETINFO, ABORT, REPORT, EVENT, START, ACTIVE, IMMEDIATE, reserved, name, TIME≥, number, date, unrealDate, time, unrealTime, string, operator, semicolon}
 use Rattle.grammar.specs.Grammar.Point.{first, between, statement, jobName, jobResponse, jobFile, moveFile, moveSource, moveStart, startKind, startTime, startDate, startOperator, startValue, infoFile, abortKind, abortName, ending, done, dead}
@@ -45,31 +44,6 @@ class-again unrealTime = refl
 class-again string = refl
 class-again operator = refl
 class-again semicolon = refl
-
--- there are 22 classes
-pub class-below : (c : Class) → classNo c < 22
-class-below JOB = lit< tt
-class-below RESPONSE = lit< tt
-class-below UPLOAD = lit< tt
-class-below DOWNLOAD = lit< tt
-class-below GETINFO = lit< tt
-class-below ABORT = lit< tt
-class-below REPORT = lit< tt
-class-below EVENT = lit< tt
-class-below START = lit< tt
-class-below ACTIVE = lit< tt
-class-below IMMEDIATE = lit< tt
-class-below reserved = lit< tt
-class-below name = lit< tt
-class-below TIME≥ = lit< tt
-class-below number = lit< tt
-class-below date = lit< tt
-class-below unrealDate = lit< tt
-class-below time = lit< tt
-class-below unrealTime = lit< tt
-class-below string = lit< tt
-class-below operator = lit< tt
-class-below semicolon = lit< tt
 
 point-again : (q : Point) → pointOf (pointNo q) ≡ q
 point-again first = refl
@@ -242,48 +216,3 @@ any-walks (ended (another (download m))) = move-walks m
 any-walks (ended (another getinfo)) = refl
 any-walks (ended (another abort-report)) = refl
 any-walks (ended (another abort-event)) = refl
-
--- a way to end a statement from each point
-abbrev pub finish : Point → List Class
-finish first = JOB ∷ name ∷ RESPONSE ∷ string ∷ semicolon ∷ []
-finish between = GETINFO ∷ string ∷ semicolon ∷ []
-finish statement = GETINFO ∷ string ∷ semicolon ∷ []
-finish jobName = name ∷ RESPONSE ∷ string ∷ semicolon ∷ []
-finish jobResponse = RESPONSE ∷ string ∷ semicolon ∷ []
-finish jobFile = string ∷ semicolon ∷ []
-finish moveFile = string ∷ ACTIVE ∷ semicolon ∷ []
-finish moveSource = ACTIVE ∷ semicolon ∷ []
-finish moveStart = semicolon ∷ []
-finish startKind = IMMEDIATE ∷ semicolon ∷ []
-finish startTime = time ∷ semicolon ∷ []
-finish startDate = semicolon ∷ []
-finish startOperator = operator ∷ number ∷ semicolon ∷ []
-finish startValue = number ∷ semicolon ∷ []
-finish infoFile = string ∷ semicolon ∷ []
-finish abortKind = EVENT ∷ name ∷ semicolon ∷ []
-finish abortName = name ∷ semicolon ∷ []
-finish ending = semicolon ∷ []
-finish done = []
-finish dead = []
-
-pub finishes : (q : Point) → isPoint q dead ≡ false → walk q (finish q) ≡ done
-finishes first e = refl
-finishes between e = refl
-finishes statement e = refl
-finishes jobName e = refl
-finishes jobResponse e = refl
-finishes jobFile e = refl
-finishes moveFile e = refl
-finishes moveSource e = refl
-finishes moveStart e = refl
-finishes startKind e = refl
-finishes startTime e = refl
-finishes startDate e = refl
-finishes startOperator e = refl
-finishes startValue e = refl
-finishes infoFile e = refl
-finishes abortKind e = refl
-finishes abortName e = refl
-finishes ending e = refl
-finishes done e = refl
-finishes dead e = absurd (true≢false e)

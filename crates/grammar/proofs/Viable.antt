@@ -4,13 +4,12 @@ use mathlib.Core.List.{List, [], _∷_, _++_, append-assoc}
 use mathlib.Core.Bool.{false, true≢false}
 use Prim.Native.Nat.{ℕ}
 use Rattle.grammar.specs.Grammar.{Class, Point, isPoint}
-use Rattle.grammar.specs.Grammar.Class.{JOB, RESPONSE, GETINFO, EVENT, ACTIVE, IMMEDIATE, name, number, time, string, operator, semicolon}
 use Rattle.grammar.specs.Grammar.Point.{first, between, statement, jobName, jobResponse, jobFile, moveFile, moveSource, moveStart, startKind, startTime, startDate, startOperator, startValue, infoFile, abortKind, abortName, ending, done, dead}
 use Rattle.grammar.specs.Productions.{Placed, Begins}
 use Rattle.grammar.specs.Reading.{State, move, moves}
 use Rattle.grammar.specs.Reading.State.{on, wrong}
 use Rattle.grammar.specs.Rows.{MayStand}
-use Rattle.grammar.proofs.Points.{finish}
+use Rattle.grammar.proofs.Ways.{finish}
 use Rattle.grammar.proofs.Moves.{Fine, fine, moves-append, moves-wrong, wrong≢on}
 use Rattle.grammar.proofs.Moves.Fine.{fresh, running}
 use Rattle.grammar.proofs.Files.{file-read, read-legal}

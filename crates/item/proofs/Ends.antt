@@ -1,10 +1,10 @@
 -- The end of a file is at its length. Assumes nothing.
-use Prim.Native.Nat.{ℕ, _+_, _≤_}
+use Prim.Native.Nat.{ℕ, _≤_}
 use mathlib.Core.Path.{_≡_}
 use mathlib.Core.Bool.{false}
 use mathlib.Core.List.{List}
 use native.Mathlib.Omega.{arith}
-use lib.ListN.{length, drop}
+use lib.ListN.{length}
 use Rattle.scan.specs.Run.{blankEnd}
 use Rattle.scan.proofs.Settled.{onward}
 use Rattle.token.specs.Token.{tokenAt, nextToken}

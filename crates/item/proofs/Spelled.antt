@@ -23,8 +23,8 @@ use Rattle.grammar.specs.Reading.{Last}
 use Rattle.grammar.specs.Reading.Last.{end, broken}
 use Rattle.grammar.specs.Productions.{Placed, classes, Legal, Begins}
 use Rattle.grammar.proofs.Relabel.{relabel}
-use Rattle.item.specs.Tokens.{Next, at, wordClass, clauseClass, abortClass, numberClass, timeNumber, itemOf, nextItem, Tokens}
-use Rattle.item.specs.Tokens.Next.{item, ended, none}
+use Rattle.item.specs.Tokens.{at, wordClass, clauseClass, abortClass, numberClass, timeNumber, itemOf, nextItem, Tokens}
+use Rattle.item.specs.Tokens.Next.{item, ended}
 use Rattle.item.specs.Tokens.Tokens.{at-end, no-token, then}
 use Rattle.item.proofs.Shifted.{next-item-up}
 

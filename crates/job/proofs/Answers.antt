@@ -1,6 +1,6 @@
 -- What `read_job` answers, from what the loop over statements found. Assumes nothing.
 use Prim.Native.Nat.{ℕ, _+_, _≤_, _<_}
-use mathlib.Core.Path.{_≡_, refl, sym, _∙_, ap}
+use mathlib.Core.Path.{_≡_, sym, _∙_, ap}
 use mathlib.Core.Bool.{true, false}
 use mathlib.Core.List.{List, [], _++_}
 use native.Mathlib.Omega.{arith}
@@ -12,8 +12,7 @@ use Rattle.counts.specs.Refusals.{fileTooLong, tooFewPlaces}
 use Rattle.counts.specs.Result.{Result}
 use Rattle.counts.specs.Result.Result.{refused, done}
 use Rattle.counts.specs.declared.Refusal.{Refusal}
-use Rattle.grammar.specs.Reading.{Answer, read}
-use Rattle.item.specs.Tokens.{line}
+use Rattle.grammar.specs.Reading.{Answer}
 use Rattle.item.proofs.Lines.{line-tokens}
 use Rattle.job.specs.Job.{onRoom, readJob, counted, filled}
 use Rattle.job.specs.Loop.{jobLoop, foundOf}

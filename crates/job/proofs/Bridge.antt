@@ -1,7 +1,7 @@
 -- Reading statement by statement is reading the whole list of tokens through the points. Assumes nothing.
 use Prim.Native.Nat.{ℕ, zero, suc, _+_, _≤_, _<_}
 use mathlib.Core.Path.{_≡_, refl, sym, _∙_, ap, ap₂}
-use mathlib.Core.Bool.{Bool, true, false, true≢false, cond}
+use mathlib.Core.Bool.{Bool, true, false, cond}
 use mathlib.Core.List.{List, [], _∷_, _++_}
 use native.Mathlib.Omega.{arith}
 use borrow.Author.Tests.{lt-ltb, le-ltb, eq-eqb, ne-eqb}
@@ -9,15 +9,15 @@ use lib.Dec.{eqb, ltb}
 use lib.ListN.{length, length-append}
 use Rattle.counts.specs.Limits.{statements}
 use Rattle.counts.specs.Refusals.{noToken, unexpected, tooManyStatements}
-use Rattle.counts.specs.Result.Result.{refused, done as taken}
-use Rattle.grammar.specs.Grammar.{Class, Point, classNo, isClass, isPoint, shape}
+use Rattle.counts.specs.Result.Result.{refused}
+use Rattle.grammar.specs.Grammar.{Class, classNo, isClass, isPoint}
 use Rattle.grammar.specs.Grammar.Class.{JOB, RESPONSE, UPLOAD, DOWNLOAD, GETINFO, ABORT, REPORT, EVENT, START, ACTIVE, IMMEDIATE, reserved, name, TIME≥, number, date, unrealDate, time, unrealTime, string, operator, semicolon}
-use Rattle.grammar.specs.Grammar.Point.{first, between, statement, done}
+use Rattle.grammar.specs.Grammar.Point.{done}
 use Rattle.grammar.specs.Productions.{Placed}
 use Rattle.grammar.specs.Reading.{State, Last, Answer, opening, move, moves, atEnd, close, read}
 use Rattle.grammar.specs.Reading.State.{on, wrong}
 use Rattle.grammar.proofs.Moves.{moves-wrong}
-use Rattle.grammar.proofs.Points.{class-below}
+use Rattle.grammar.proofs.Ways.{class-below}
 use Rattle.item.specs.Tokens.{Next, at, nextItem, Tokens}
 use Rattle.item.specs.Tokens.Next.{item, ended, none}
 use Rattle.item.specs.Tokens.Tokens.{at-end, no-token, then}

@@ -2,10 +2,9 @@
 use Prim.Native.Nat.{ℕ, suc, _+_, _-_, _≤_, _<_}
 use mathlib.Core.Path.{_≡_, refl, sym, _∙_, ap, subst}
 use mathlib.Core.Bool.{Bool, true, false, cond}
-use mathlib.Core.List.{List, [], _∷_, _++_}
+use mathlib.Core.List.{List}
 use native.Mathlib.Omega.{arith}
 use native.Mathlib.Numerals.{add-one}
-use borrow.Author.Tests.{eq-eqb}
 use lib.Dec.{eqb, ltb}
 use lib.ListN.{length, take, set}
 use lib.Seq.{length-take-le, take-suc-set}
@@ -16,13 +15,12 @@ use Rattle.counts.specs.Result.Result.{refused, done}
 use Rattle.counts.specs.declared.Refusal.{Refusal}
 use Rattle.grammar.specs.Reading.{Answer}
 use Rattle.item.specs.Tokens.{Next, nextItem}
-use Rattle.item.specs.Tokens.Next.{item, ended, none}
 use Rattle.item.specs.Items.{endNo, noneNo, itemAt}
 use Rattle.item.specs.declared.Item.{Item}
 use Rattle.item.proofs.Lines.{inside}
 use Rattle.item.proofs.Shows.{Shows, shows}
 use Rattle.item.proofs.Shows.Shows.{a-token, the-end, no-token}
-use Rattle.job.specs.Loop.{stop, stepInto, stepOf, onStep, jobLoop}
+use Rattle.job.specs.Loop.{stop, stepOf, onStep, jobLoop}
 use Rattle.job.specs.declared.Step.{Step}
 use Rattle.job.specs.declared.Step.the-variants.{Over, Stop, On}
 

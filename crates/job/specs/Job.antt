@@ -1,5 +1,5 @@
 -- What a job file reads as, into a lent table of offsets (document 01, "The job grammar", "Refusal numbers").
-use Prim.Native.Nat.{ℕ, _≤_, _<_}
+use Prim.Native.Nat.{ℕ}
 use mathlib.Core.Bool.{cond}
 use mathlib.Core.List.{List, _++_}
 use lib.Dec.{leb}

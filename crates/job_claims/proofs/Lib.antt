@@ -1,3 +1,5 @@
 pub mod Tiles
 pub mod One
 pub mod Claims
+pub mod Statements
+pub mod Determined

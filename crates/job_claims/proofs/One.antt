@@ -11,7 +11,8 @@ use Rattle.grammar.specs.Productions.{Placed, classes}
 use Rattle.grammar.specs.Reading.{Last}
 use Rattle.grammar.specs.Reading.Last.{end, broken}
 use Rattle.grammar.specs.Rows.{real, Stands}
-use Rattle.grammar.proofs.Points.{is-point, stays, dead≢done, walked-any, any-walks, finish, finishes}
+use Rattle.grammar.proofs.Points.{is-point, stays, dead≢done, walked-any, any-walks}
+use Rattle.grammar.proofs.Ways.{finish, finishes}
 use Rattle.item.specs.Tokens.{nextItem, Tokens}
 use Rattle.item.specs.Tokens.Next.{item, ended, none}
 use Rattle.item.specs.Tokens.Tokens.{at-end, no-token, then as and-then}

@@ -1,15 +1,14 @@
 -- Each statement of a taken file is read on its own from its offset, and they tile the file. Assumes nothing.
 use Prim.Native.Nat.{ℕ, zero, suc, _+_, _-_, _≤_, _<_}
-use mathlib.Core.Path.{_≡_, refl, sym, _∙_, ap, ap₂}
+use mathlib.Core.Path.{_≡_, refl, _∙_, ap, ap₂}
 use mathlib.Core.Bool.{Bool, true, false, cond}
 use mathlib.Core.List.{List, [], _∷_, _++_, append-assoc, append-nil}
 use native.Mathlib.Omega.{arith}
 use borrow.Author.Tests.{le-leb, eqb-true}
 use lib.Dec.{eqb}
-use lib.ListN.{length, drop}
+use lib.ListN.{length}
 use Rattle.counts.specs.Limits.{fileBytes, statements}
 use Rattle.counts.specs.Refusals.{noToken, unexpected, tooManyStatements}
-use Rattle.counts.specs.Result.{Result}
 use Rattle.counts.specs.Result.Result.{refused, done}
 use Rattle.counts.specs.declared.Refusal.{Refusal}
 use Rattle.scan.specs.Run.{blankEnd}
@@ -19,7 +18,7 @@ use Rattle.grammar.specs.Grammar.{classNo}
 use Rattle.grammar.specs.Grammar.Class.{JOB}
 use Rattle.grammar.specs.Productions.{Placed}
 use Rattle.grammar.specs.Reading.{Answer}
-use Rattle.grammar.proofs.Points.{class-below}
+use Rattle.grammar.proofs.Ways.{class-below}
 use Rattle.item.specs.Tokens.{Next, itemOf, nextItem}
 use Rattle.item.specs.Tokens.Next.{item, ended, none}
 use Rattle.item.specs.Items.{endNo, noneNo, numbered, itemAt}
@@ -32,7 +31,7 @@ use Rattle.statement.specs.declared.Statement.{Statement}
 use Rattle.statement.specs.declared.StatementRead.{StatementRead}
 use Rattle.statement.specs.declared.StatementRead.the-variants.{Is, Refused}
 use Rattle.statement.proofs.From.{statement-from}
-use Rattle.job.specs.Statement.{placed, onRead, statementIn, readStatement, Tiled}
+use Rattle.job.specs.Statement.{placed, onRead, readStatement, Tiled}
 use Rattle.job.specs.Statement.Tiled.{over, tile}
 use Rattle.job.specs.Loop.{stop, stepRead, stepInto, stepOf, onStep, jobLoop}
 use Rattle.job.specs.declared.Step.{Step}

@@ -1,6 +1,6 @@
 -- After the blanks no blank stands, and they lie within the file. Assumes nothing.
 use Prim.Native.Nat.{ℕ, suc, _+_, _≤_, max}
-use mathlib.Core.Path.{_≡_, refl, _∙_, ap}
+use mathlib.Core.Path.{_≡_, refl}
 use mathlib.Core.Bool.{Bool, true, false, not, _&&_}
 use mathlib.Core.List.{List, [], _∷_}
 use native.Mathlib.Omega.{arith}

@@ -9,7 +9,7 @@ use Rattle.grammar.specs.Grammar.{Class, Point, Edge, next, look, step, isClass
 use Rattle.grammar.specs.Grammar.Point.{first, between, statement, jobName, jobResponse, jobFile, moveFile, moveSource, moveStart, startKind, startTime, startDate, startOperator, startValue, infoFile, abortKind, abortName, ending, done, dead}
 use Rattle.grammar.specs.Productions.{Placed}
 use Rattle.grammar.specs.Reading.{State, Last, moves, atEnd, close}
-use Rattle.grammar.specs.Reading.State.{on, wrong}
+use Rattle.grammar.specs.Reading.State.{on}
 use Rattle.grammar.specs.Reading.Last.{end, broken}
 use Rattle.grammar.proofs.Points.{Each, is-point}
 use Rattle.grammar.proofs.Moves.{moves-wrong}

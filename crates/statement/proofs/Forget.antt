@@ -6,26 +6,20 @@ use mathlib.Core.List.{List, [], _∷_}
 use native.Mathlib.Omega.{arith}
 use borrow.Author.Tests.{ne-eqb}
 use lib.Dec.{eqb}
-use Rattle.counts.specs.Refusals.{noToken, unexpected, notReal, refusal}
-use Rattle.token.specs.declared.Operator.{Operator}
+use Rattle.counts.specs.Refusals.{noToken, unexpected, notReal}
 use Rattle.grammar.specs.Grammar.{Class, classNo, isClass, shape}
 use Rattle.grammar.specs.Grammar.Class.{JOB, RESPONSE, UPLOAD, DOWNLOAD, GETINFO, ABORT, REPORT, EVENT, START, ACTIVE, IMMEDIATE, reserved, name, TIME≥, number, date, unrealDate, time, unrealTime, string, operator, semicolon}
-use Rattle.grammar.specs.Grammar.Point.{statement}
-use Rattle.grammar.proofs.Points.{class-below}
+use Rattle.grammar.proofs.Ways.{class-below}
 use Rattle.item.specs.Tokens.{Next}
-use Rattle.item.specs.Tokens.Next.{item, ended, none}
-use Rattle.item.specs.Items.{endNo, noneNo, itemAt}
+use Rattle.item.specs.Items.{endNo, noneNo}
 use Rattle.item.specs.declared.Item.{Item}
-use Rattle.item.proofs.Shows.{Shows, shows}
+use Rattle.item.proofs.Shows.{Shows}
 use Rattle.item.proofs.Shows.Shows.{a-token, the-end, no-token}
-use Rattle.statement.specs.declared.Part.{Part as Name}
-use Rattle.statement.specs.declared.Aborted.{Aborted}
-use Rattle.statement.specs.declared.Statement.{Statement}
 use Rattle.statement.specs.declared.Transfer.{Transfer}
 use Rattle.statement.specs.declared.StatementRead.{StatementRead}
 use Rattle.statement.specs.declared.StatementRead.the-variants.{Is, Refused}
 use Rattle.statement.specs.Statement as values
-use Rattle.statement.specs.Statement.{no, unexpectedAt}
+use Rattle.statement.specs.Statement.{unexpectedAt}
 use Rattle.statement.proofs.Plain as plain
 use Rattle.statement.proofs.Plain.{Part}
 use Rattle.statement.proofs.Plain.Part.{whole, stopped}

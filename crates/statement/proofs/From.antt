@@ -1,15 +1,13 @@
 -- A statement read from the file's bytes from its place on is read as in the file: the same values, the same places. Assumes nothing.
 use Prim.Native.Nat.{ℕ, _≤_}
-use mathlib.Core.Path.{_≡_, refl, sym, _∙_, ap, ap₂}
-use mathlib.Core.Bool.{Bool, cond, _&&_}
+use mathlib.Core.Path.{_≡_, refl, _∙_, ap}
+use mathlib.Core.Bool.{Bool}
 use mathlib.Core.List.{List, [], _∷_}
 use native.Mathlib.Omega.{arith}
-use lib.Dec.{eqb}
 use lib.ListN.{length, drop}
-use Rattle.counts.specs.Refusals.{notReal}
 use Rattle.token.specs.declared.Operator.{Operator}
-use Rattle.grammar.specs.Grammar.{Class, classNo}
-use Rattle.grammar.specs.Grammar.Class.{date, unrealDate, time, unrealTime}
+use Rattle.grammar.specs.Grammar.{Class}
+use Rattle.grammar.specs.Grammar.Class.{date, time}
 use Rattle.item.specs.Items.{itemAt}
 use Rattle.item.specs.declared.Item.{Item}
 use Rattle.item.proofs.Shows.{onward, from-there}
@@ -18,7 +16,7 @@ use Rattle.statement.specs.declared.Aborted.{Aborted}
 use Rattle.statement.specs.declared.Statement.{Statement}
 use Rattle.statement.specs.declared.Transfer.{Transfer}
 use Rattle.statement.specs.declared.StatementRead.{StatementRead}
-use Rattle.statement.specs.Statement.{Branch, no, unexpectedAt, has, pick, otherwise, onItem, oneOf, ending, jobFile, jobResponse, jobName, startValue, startOperator, startDate, startTime, startKind, moveStart, moveSource, moveFile, infoFile, abortName, abortKind, kinds, statementOf}
+use Rattle.statement.specs.Statement.{Branch, has, pick, otherwise, onItem, oneOf, ending, jobFile, jobResponse, jobName, startValue, startOperator, startDate, startTime, startKind, moveStart, moveSource, moveFile, infoFile, abortName, abortKind, kinds, statementOf}
 
 -- the same classes, each read on alike from every place from o on
 abbrev Same : ℕ → List Branch → List Branch → Type 0

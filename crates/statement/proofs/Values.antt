@@ -1,8 +1,6 @@
 -- A number's class is one of three: the law that `start_value` is proved by. Assumes nothing.
-use Prim.Native.Nat.{ℕ}
-use mathlib.Core.Path.{_≡_, refl, sym, _∙_}
+use mathlib.Core.Path.{_≡_, refl, _∙_}
 use mathlib.Core.Bool.{Bool, true, false, cond, _||_, _&&_}
-use lib.Dec.{eqb}
 use Rattle.laws.proofs.Choose.{choose}
 use Rattle.statement.specs.declared.StatementRead.{StatementRead}
 

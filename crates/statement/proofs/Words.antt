@@ -2,7 +2,7 @@
 use Prim.Native.Nat.{ℕ}
 use mathlib.Core.Path.{_≡_, refl}
 use mathlib.Core.Bool.{Bool}
-use mathlib.Core.List.{List, [], _∷_}
+use mathlib.Core.List.{List}
 use Rattle.token.specs.declared.Operator.{Operator}
 use Rattle.grammar.specs.Grammar.Class.{JOB}
 use Rattle.grammar.specs.Grammar.Point.{statement}

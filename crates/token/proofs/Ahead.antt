@@ -1,5 +1,5 @@
 -- Where a token stands: at the place where it was looked for, and it ends after it, within the file. Assumes nothing.
-use Prim.Native.Nat.{ℕ, suc, _+_, _-_, _≤_, _<_, max}
+use Prim.Native.Nat.{ℕ, _+_, _-_, _≤_, _<_, max}
 use mathlib.Core.Path.{_≡_, refl, sym, _∙_, ap}
 use mathlib.Core.Bool.{Bool, true, false, true≢false, cond, _||_, _&&_}
 use mathlib.Core.List.{List, [], _∷_}

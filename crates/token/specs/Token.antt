@@ -9,9 +9,7 @@ use Rattle.counts.specs.Limits.{wordBytes, textBytes, numberDigits}
 use Rattle.field.specs.Bytes.{hasAt, ascii}
 use Rattle.scan.specs.Kinds.{isDigit, isLetter, isWordByte, isNumericByte, isTextByte}
 use Rattle.scan.specs.Run.{runEnd, blankEnd}
-use Rattle.token.specs.declared.Operator.{Operator}
 use Rattle.token.specs.declared.Operator.the-variants.{Equal, NotEqual, Above, Below, AtLeast, AtMost}
-use Rattle.token.specs.declared.Why.{Why}
 use Rattle.token.specs.declared.Why.the-variants.{Stray, OpenString, BrokenString, Misshapen}
 use Rattle.token.specs.declared.Token.{Token}
 use Rattle.token.specs.declared.Token.the-variants.{End, Fault, Word, TimeGe, Number, Time, Text, Sign, Semicolon}

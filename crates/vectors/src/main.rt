@@ -4,9 +4,9 @@
 use io::print_decimal;
 use io::write_all;
 use job::JobAnswer;
+use libc::STDOUT_FILENO;
 use record::Outcome;
 use record::RecordRead;
-use libc::STDOUT_FILENO;
 
 fn print_number(n: u64) {
     write_all(STDOUT_FILENO, b" ");

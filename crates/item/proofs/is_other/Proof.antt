@@ -1,6 +1,5 @@
 -- `item::is_other` meets its contract. Assumes nothing.
 use Rattle.item.proofs.Classes.{classes}
-use Rattle.item.specs.Tokens.{isOther}
 use borrow.Author.Needs.{needs}
 use Rattle.item.proofs.is_other.Statement.{statement}
 use Rattle.item.proofs.is_other.Tie as tie

@@ -1,7 +1,6 @@
 -- `number::scale` meets its contract. Assumes nothing.
 use Prim.Native.Nat.{_+_, _-_, _≤_}
 use mathlib.Core.Path.{_≡_}
-use native.Mathlib.Omega.{arith}
 use Rattle.field.specs.Part.{part}
 use Rattle.number.specs.Number.{scaleOf}
 use Rattle.number.proofs.Digits.{reading}

@@ -1,13 +1,9 @@
 -- `number::signed` meets its contract. Assumes nothing.
-use mathlib.Core.Path.{_≡_, refl, sym, ap, _∙_, subst}
-use Prim.Native.Nat.{ℕ, _^_, _<_}
 use native.Mathlib.Omega.{arith}
 use lib.IntN.{pos, negℤ}
 use mir.Syntax.{w64}
-use mir.Val.{SFits, toZ, ofZ}
 use mir.ValLaws.{toZ-pos, toZ-ofZ}
 use borrow.Author.Needs.{needs}
-use Rattle.number.specs.Number.{signedOf}
 use Rattle.number.proofs.SignedLaws.{less, neg-fits}
 use Rattle.number.proofs.signed.Statement.{statement}
 use Rattle.number.proofs.signed.Tie as tie

@@ -1,0 +1,134 @@
+-- Demand 2 for one statement: `readStatement`, which the contract of `job::read_statement` cites, gives an answer exactly when document 01
+-- says so. `ts` are the file's tokens from the offset on, and `z` ends them. Assumes nothing.
+use Prim.Native.Nat.{ℕ, _≤_, _<_}
+use mathlib.Core.Path.{_≡_, refl, sym, _∙_, ap, subst}
+use mathlib.Core.Bool.{Bool, true, false, cond}
+use mathlib.Core.List.{List}
+use mathlib.Core.Logic.{_↔_, _⊎_, inl, inr}
+use native.Mathlib.Omega.{arith}
+use borrow.Author.Tests.{leb-true, leb-false, le-leb, lt-leb}
+use lib.Dec.{leb}
+use lib.ListN.{length, drop}
+use Rattle.counts.specs.Limits.{fileBytes}
+use Rattle.counts.specs.Refusals.{fileTooLong, outOfRange, noToken, unexpected, notReal}
+use Rattle.counts.specs.Result.{Result}
+use Rattle.counts.specs.Result.Result.{refused, done}
+use Rattle.grammar.specs.Grammar.Point.{statement}
+use Rattle.grammar.specs.Productions.{Placed}
+use Rattle.grammar.specs.Reading.{Last}
+use Rattle.item.specs.Tokens.{Tokens}
+use Rattle.item.specs.Items.{itemAt}
+use Rattle.statement.specs.Statement.{statementOf}
+use Rattle.statement.specs.declared.StatementRead.{StatementRead}
+use Rattle.statement.specs.declared.StatementRead.the-variants.{Is, Refused}
+use Rattle.statement.proofs.Plain.{Part, partAt}
+use Rattle.statement.proofs.Plain.Part.{whole, stopped}
+use Rattle.statement.proofs.Forget.{forget}
+use Rattle.statement.proofs.Words.{statement-is}
+use Rattle.statement.proofs.From.{statement-from}
+use Rattle.job.specs.Statement.{onRead, statementIn, readStatement}
+use Rattle.job.specs.declared.StatementAt.{StatementAt}
+use Rattle.job_claims.specs.Rows.{One, OneThree, OneFourEnd, OneFourToken, OneFive}
+use Rattle.job_claims.proofs.One.{Judged, says-one, one-says}
+use Rattle.job_claims.proofs.One.Judged.{read, three, four-end, four-token, five}
+
+-- an answer without the statement's values: the place after its `;`, or the refusal
+abbrev pub ends : Result StatementAt → Result ℕ
+ends (done x) = done (x .next)
+ends (refused n p) = refused n p
+
+unfoldable ofPart : Part → Result ℕ
+ofPart (whole e) = done e
+ofPart (stopped n p) = refused n p
+
+of-read : (p : ℕ) (r : StatementRead) → ends (onRead p r) ≡ ofPart (forget r)
+unfolding ofPart
+of-read p (Is x e) = refl
+of-read p (Refused r) = refl
+
+ends-refused : (a : Result StatementAt) (n p : ℕ) → ends a ≡ refused n p → a ≡ refused n p
+ends-refused (done x) n p e = let z : _≡_ {A = ℕ} 0 1 = cc in absurd (omega arith)
+ends-refused (refused m q) n p e = let a : m ≡ n = cc in let b : q ≡ p = cc in rw (a, b)
+
+module _ (s : List ℕ) (at : ℕ) (ts : List Placed) (z : Last) (d : Tokens s at ts z) where
+  data Verdict : Result ℕ → Type 0 where
+    too-long : fileBytes < length s → Verdict (refused fileTooLong 0)
+    past : length s ≤ fileBytes → length s < at → Verdict (refused outOfRange 0)
+    not-read : {n p : ℕ} → length s ≤ fileBytes → at ≤ length s → Judged s at ts z (stopped n p) → Verdict (refused n p)
+    is-read : {e : ℕ} → length s ≤ fileBytes → at ≤ length s → Judged s at ts z (whole e) → Verdict (done e)
+
+  in-part : at ≤ length s → ends (statementIn at (drop at s)) ≡ ofPart (partAt s statement at)
+  in-part l =
+      of-read (itemAt at (drop at s) at .place) (statementOf at (drop at s) (itemAt at (drop at s) at))
+      ∙ ap (λ (r : StatementRead). ofPart (forget r)) (statement-from at s l at (omega arith))
+      ∙ ap ofPart (statement-is s at)
+
+  judged : length s ≤ fileBytes → at ≤ length s → (x : Part) → Judged s at ts z x → Verdict (ofPart x)
+  unfolding ofPart
+  judged l m (whole e) j = is-read l m j
+  judged l m (stopped n p) j = not-read l m j
+
+  given : Verdict (ends (readStatement s at))
+  unfolding readStatement
+  given = go (leb (length s) fileBytes) refl (leb at (length s)) refl
+    where
+      go : (a : Bool) → leb (length s) fileBytes ≡ a → (b : Bool) → leb at (length s) ≡ b → Verdict (ends (cond a (cond b (statementIn at (drop at s)) (refused outOfRange 0)) (refused fileTooLong 0)))
+      go false e b f = too-long (leb-false _ _ e)
+      go true e false f = past (leb-true _ _ e) (leb-false _ _ f)
+      go true e true f = subst Verdict (sym (in-part (leb-true _ _ f))) (judged (leb-true _ _ e) (leb-true _ _ f) (partAt s statement at) (one-says s at d))
+
+  only : (v : Result ℕ) → Verdict v → ends (readStatement s at) ≡ v
+  unfolding readStatement ofPart
+  only v (too-long l) = rw (lt-leb _ _ l)
+  only v (past l m) = rw (le-leb _ _ l, lt-leb _ _ m)
+  only v (not-read l m j) = rw (le-leb _ _ l, le-leb _ _ m) (in-part m ∙ ap ofPart (says-one s at ts z d _ j))
+  only v (is-read l m j) = rw (le-leb _ _ l, le-leb _ _ m) (in-part m ∙ ap ofPart (says-one s at ts z d _ j))
+
+  asked : {n p : ℕ} → readStatement s at ≡ refused n p → Verdict (refused n p)
+  asked e = subst Verdict (ap ends e) given
+
+  told : {n p : ℕ} → Verdict (refused n p) → readStatement s at ≡ refused n p
+  told {n} {p} v = ends-refused (readStatement s at) n p (only (refused n p) v)
+
+  -- A statement is read, up to the place e after its `;`, when and only when the tokens from the offset on begin with a whole statement that
+  -- ends there.
+  pub statement-read-exactly : (e : ℕ) → ends (readStatement s at) ≡ done e ↔ (length s ≤ fileBytes) × (at ≤ length s) × One s at e
+  statement-read-exactly e = (λ h. from (subst Verdict h given), λ h. only (done e) (is-read (h .0) (h .1) (read (h .2))))
+    where
+      from : Verdict (done e) → (length s ≤ fileBytes) × (at ≤ length s) × One s at e
+      from (is-read l m (read o)) = (l, m, o)
+
+  pub statement-one-exactly : (p : ℕ) → readStatement s at ≡ refused fileTooLong p ↔ (fileBytes < length s) × p ≡ 0
+  statement-one-exactly p = (λ e. from p (asked e), λ h. rw (h .1) (told (too-long (h .0))))
+    where
+      from : (p : ℕ) → Verdict (refused fileTooLong p) → (fileBytes < length s) × p ≡ 0
+      from p (too-long l) = (l, refl)
+
+  pub statement-eleven-exactly : (p : ℕ) → readStatement s at ≡ refused outOfRange p ↔ (length s ≤ fileBytes) × (length s < at) × p ≡ 0
+  statement-eleven-exactly p = (λ e. from p (asked e), λ h. rw (h .2) (told (past (h .0) (h .1))))
+    where
+      from : (p : ℕ) → Verdict (refused outOfRange p) → (length s ≤ fileBytes) × (length s < at) × p ≡ 0
+      from p (past l m) = (l, m, refl)
+
+  pub statement-three-exactly : (p : ℕ) → readStatement s at ≡ refused noToken p ↔ (length s ≤ fileBytes) × (at ≤ length s) × OneThree ts z p
+  statement-three-exactly p = (λ e. from (asked e), λ h. told (not-read (h .0) (h .1) (three (h .2))))
+    where
+      from : Verdict (refused noToken p) → (length s ≤ fileBytes) × (at ≤ length s) × OneThree ts z p
+      from (not-read l m (three r)) = (l, m, r)
+
+  pub statement-five-exactly : (p : ℕ) → readStatement s at ≡ refused notReal p ↔ (length s ≤ fileBytes) × (at ≤ length s) × OneFive ts p
+  statement-five-exactly p = (λ e. from (asked e), λ h. told (not-read (h .0) (h .1) (five (h .2))))
+    where
+      from : Verdict (refused notReal p) → (length s ≤ fileBytes) × (at ≤ length s) × OneFive ts p
+      from (not-read l m (five r)) = (l, m, r)
+
+  pub statement-four-exactly : (p : ℕ) → readStatement s at ≡ refused unexpected p ↔ (length s ≤ fileBytes) × (at ≤ length s) × (OneFourToken ts p ⊎ OneFourEnd ts z p)
+  statement-four-exactly p = (λ e. from (asked e), λ h. told (not-read (h .0) (h .1) (to (h .2))))
+    where
+      from : Verdict (refused unexpected p) → (length s ≤ fileBytes) × (at ≤ length s) × (OneFourToken ts p ⊎ OneFourEnd ts z p)
+      from (not-read l m (four-token r)) = (l, m, inl r)
+      from (not-read l m (four-end r)) = (l, m, inr r)
+
+      to : OneFourToken ts p ⊎ OneFourEnd ts z p → Judged s at ts z (stopped unexpected p)
+      to (inl r) = four-token r
+      to (inr r) = four-end r
