@@ -10,13 +10,24 @@ use statement::Statement;
 
 fn print_keyword(statement: Statement) {
     match statement {
-        Statement::Job { name: _, response: _ } => {
+        Statement::Job {
+            name: _,
+            response: _,
+        } => {
             write_all(STDOUT_FILENO, b"JOB");
         }
-        Statement::Upload { file: _, source: _, start: _ } => {
+        Statement::Upload {
+            file: _,
+            source: _,
+            start: _,
+        } => {
             write_all(STDOUT_FILENO, b"UPLOAD");
         }
-        Statement::Download { file: _, source: _, start: _ } => {
+        Statement::Download {
+            file: _,
+            source: _,
+            start: _,
+        } => {
             write_all(STDOUT_FILENO, b"DOWNLOAD");
         }
         Statement::GetInfo { file: _ } => {
