@@ -26,20 +26,21 @@ pub fn reply_length(b: &[u8], s: SessionNumber, n: u32) -> usize
     let mut i: u32 = 0;
     let mut total: usize = 0;
     while i < n {
-        let outcome = get_entry(b, s, CommandNumber(i + 1)).outcome;
-        total += record::record_length(i + 1, outcome, 0);
+        let command = CommandNumber(i + 1);
+        let outcome = get_entry(b, s, command).outcome;
+        total += record::record_length(command, outcome, 0);
         i += 1;
     }
     total
 }
 
-// Writes the record of the answer to command n, text empty, and gives the place after it.
-fn put_answer(out: &mut [u8], at: usize, n: u32, a: Answer) -> usize
-    requires { ⌜ Fits commands (content n (a .outcome) [] (a .date) (a .time)) at (now out) ⌝ }
-    ensures { λ r. ⌜ Wrote (now (out .entry)) at (recordOf n a) (now (out .exit)) r ⌝ }
+// Writes the record of the answer to a command, text empty, and gives the place after it.
+fn put_answer(out: &mut [u8], at: usize, command: CommandNumber, a: Answer) -> usize
+    requires { ⌜ Fits commands (content (command .0) (a .outcome) [] (a .date) (a .time)) at (now out) ⌝ }
+    ensures { λ r. ⌜ Wrote (now (out .entry)) at (recordOf (command .0) a) (now (out .exit)) r ⌝ }
 {
     let outcome = a.outcome;
-    record::put_record(out, at, n, outcome, a.date, a.time, b"")
+    record::put_record(out, at, command, outcome, a.date, a.time, b"")
 }
 
 // Writes the first n records from the start of out on, and gives the place after them.
@@ -50,7 +51,8 @@ pub fn write_reply(b: &[u8], s: SessionNumber, n: u32, out: &mut [u8]) -> usize
     let mut i: u32 = 0;
     let mut at: usize = 0;
     while i < n {
-        at = put_answer(out, at, i + 1, get_entry(b, s, CommandNumber(i + 1)));
+        let command = CommandNumber(i + 1);
+        at = put_answer(out, at, command, get_entry(b, s, command));
         i += 1;
     }
     at

@@ -4,7 +4,7 @@ use native.Mathlib.Omega.{arith}
 use borrow.Author.Needs.{needs}
 use lib.ListN.{length}
 use Rattle.table_reply.specs.Reply.{replyOf}
-use Rattle.table_reply.proofs.Records.{reply-none, length-more, small, length-all}
+use Rattle.table_reply.proofs.Records.{reply-none, length-more, length-all, small}
 use Rattle.table_reply.proofs.reply_length.Statement.{statement}
 use Rattle.table_reply.proofs.reply_length.Tie as tie
 
@@ -17,14 +17,11 @@ abbrev μ-loop : tie.MeasureT-loop
 loop-holds : tie.Need-loop-holds Inv-loop μ-loop
 loop-holds c = (omega arith, omega arith, sym (ap length (reply-none _ _)))
 
-add-record-length : tie.Need-add-record-length Inv-loop μ-loop
-add-record-length c = omega arith
+add-t9 : tie.Need-add-t9 Inv-loop μ-loop
+add-t9 c = omega arith
 
 get-entry-requires : tie.Need-get-entry-requires Inv-loop μ-loop
 get-entry-requires c κs = search needs
-
-add-record-length-2 : tie.Need-add-record-length-2 Inv-loop μ-loop
-add-record-length-2 c = omega arith
 
 record-length-requires : tie.Need-record-length-requires Inv-loop μ-loop
 record-length-requires c κs = search needs
@@ -51,9 +48,8 @@ reply-length-spec =
     Inv-loop
     μ-loop
     loop-holds
-    add-record-length
+    add-t9
     get-entry-requires
-    add-record-length-2
     record-length-requires
     add-total
     add-i
