@@ -51,7 +51,7 @@ counted (refused n p) = 0
 pub not-one-reading : (v : Verdict) → ((s : List ℕ) → readJob s statements ≡ v) → ⊥
 unfolding counted oneStatement twoStatements
 not-one-reading v always =
-    let e : done (0 ∷ []) ≡ done (0 ∷ 19 ∷ []) = sym one-is ∙ always _ ∙ sym (always _) ∙ two-is in
+    let e : _≡_ {A = Verdict} (done (0 ∷ [])) (done (0 ∷ 19 ∷ [])) = sym one-is ∙ always _ ∙ sym (always _) ∙ two-is in
     let n : _≡_ {A = ℕ} 1 2 = ap counted e in
     omega arith
 
