@@ -85,6 +85,12 @@ fn answer(table: &mut [u8], ticket: u32, command: u32, outcome: Outcome, time: u
     }
 }
 
+fn print_front(reply: &[u8], n: usize) {
+    if n <= reply.len() {
+        write_all(STDOUT_FILENO, &reply[..n]);
+    }
+}
+
 fn collect(who: &[u8], table: &mut [u8], program: u32, ticket: u32) {
     write_all(STDOUT_FILENO, who);
     print_number(b" collects under ticket ", ticket as u64);
@@ -94,9 +100,7 @@ fn collect(who: &[u8], table: &mut [u8], program: u32, ticket: u32) {
         Collected::Written(n) => {
             print_number(b"", n as u64);
             write_all(STDOUT_FILENO, b" bytes\n");
-            if n <= 4096 {
-                write_all(STDOUT_FILENO, &reply[..n]);
-            }
+            print_front(&reply, n);
         }
         Collected::Refused(r) => print_refusal(r.number),
     }
