@@ -1,0 +1,310 @@
+/* Measures the library's calls against plain C (reader.re, plain.c) on the same inputs.
+ *   bench time            nanoseconds a call, the best of several tries
+ *   bench count           one call of each case, between requests to callgrind
+ *   bench one CASE SIDE N N calls of one case, for a counter that sees only the whole program
+ * Each line is: case, bytes or sessions, side, nanoseconds. Before anything is measured, both sides answer each case and are compared. */
+#include "raddlebrush.h"
+#include "plain.h"
+#ifdef CALLGRIND
+#include <valgrind/callgrind.h>
+#else
+#define CALLGRIND_ZERO_STATS
+#define CALLGRIND_DUMP_STATS_AT(name) (void)(name)
+#endif
+
+int printf(const char *, ...);
+int sprintf(char *, const char *, ...);
+int strcmp(const char *, const char *);
+int memcmp(const void *, const void *, unsigned long);
+void *memcpy(void *, const void *, unsigned long);
+void *memset(void *, int, unsigned long);
+unsigned long strlen(const char *);
+int atoi(const char *);
+void exit(int);
+struct timespec_ { long s, ns; };
+int clock_gettime(int, struct timespec_ *);
+
+static double now(void) {
+    struct timespec_ t;
+    clock_gettime(1, &t);
+    return (double)t.s * 1e9 + (double)t.ns;
+}
+
+/* ---- what the calls are given, and what they leave */
+
+static uint8_t file[65537];
+static size_t file_bytes;
+static uint8_t text[255];
+static size_t text_bytes;
+static uint32_t outcome;
+static uint8_t table[RB_TABLE_BYTES], saved[32];
+static size_t held; /* the row of the session that a call changes */
+static uint32_t program, ticket, command;
+
+static struct {
+    uint32_t returned, offsets[64], numbers[3];
+    size_t count;
+    uint8_t out[4096];
+} left;
+
+static void add(const char *s) {
+    size_t n = strlen(s);
+    memcpy(file + file_bytes, s, n);
+    file_bytes += n;
+}
+
+static void begin_file(void) {
+    file_bytes = 0;
+    add("JOB lot_17 RESPONSE \"lot_17.log\";\r\n");
+}
+
+static void statement(int i) {
+    static const char *const kinds[] = {
+        "UPLOAD \"mould_4711.stp\" ACTIVE START IMMEDIATE;\r\n",
+        "DOWNLOAD \"C:\\sets\\housing.stp\" set_12 START TIME>= 06:00:00 20240430;\r\n",
+        "GETINFO \"machine.inf\";\r\n",
+        "UPLOAD \"next.stp\" \"a.stp\" START ActCntCyc >= 12500;\r\n",
+        "ABORT REPORT shift_report;\r\n",
+        "DOWNLOAD \"b.stp\" ACTIVE START SetTmpNoz = -215.50;\r\n",
+    };
+    add(kinds[i % 6]);
+}
+
+static void end_file(void) { file[file_bytes] = 0; }
+
+static void typical(int statements) {
+    begin_file();
+    for (int i = 1; i < statements; i++) statement(i - 1);
+    end_file();
+}
+
+static void long_strings(void) {
+    char s[256];
+    memset(s, 'p', 255);
+    s[255] = 0;
+    begin_file();
+    for (int i = 1; i < 64; i++) {
+        add("UPLOAD \""); add(s); add("\" \""); add(s); add("\" START "); add("p = \""); add(s); add("\";\n");
+    }
+    end_file();
+}
+
+static void comments(void) {
+    begin_file();
+    for (int i = 1; i < 64; i++) {
+        for (int k = 0; k < 12; k++) add("// what the shift wrote about this statement, and why it stands here\r\n");
+        statement(i - 1);
+    }
+    end_file();
+}
+
+static void refused_early(void) {
+    comments();
+    memcpy(file, "JOB ; ", 6);
+}
+
+static void refused_late(void) {
+    comments();
+    file[file_bytes - 3] = '!';
+}
+
+/* ---- session tables */
+
+static void put(size_t row, uint32_t a, uint32_t b, uint32_t c, uint32_t d) {
+    uint32_t v[4] = {a, b, c, d};
+    memcpy(table + 16 * row, v, 16);
+}
+
+static size_t row_of(uint32_t s, uint32_t c) { return 1 + 65 * (size_t)s + c; }
+
+static void session(uint32_t s, uint32_t p, uint32_t count, uint32_t answered) {
+    put(row_of(s, 0), p, count, answered, s + 1);
+    for (uint32_t c = 1; c <= answered; c++) put(row_of(s, c), c % 4 ? 0 : 7, c % 4 ? 0 : 120045, 20240430, 60000 + c % 60);
+}
+
+static void keep(uint32_t s) {
+    held = row_of(s, 0);
+    memcpy(saved, table, 16);
+    memcpy(saved + 16, table + 16 * held, 16);
+}
+
+static void restore(void) {
+    memcpy(table, saved, 16);
+    memcpy(table + 16 * held, saved + 16, 16);
+}
+
+/* A table of that many sessions, of which the last one is open, half answered, or closed, with that many commands. */
+static void sessions(uint32_t n, uint32_t count, uint32_t answered, bool last_stands, bool in_hand) {
+    memset(table, 0, sizeof table);
+    for (uint32_t s = 0; s + 1 < n; s++) session(s, 1 + s % 8, count, count);
+    if (last_stands) session(n - 1, 3, count, answered);
+    put(0, 32, n, n - 1, in_hand ? n : 0);
+    program = 3;
+    ticket = n;
+    command = answered + 1;
+    keep(n - 1);
+}
+
+/* ---- the calls of each side */
+
+enum call { READ, WRITE, PLACE, TAKE_UP, ANSWER, COLLECT };
+
+static void ours(enum call call) {
+    switch (call) {
+    case READ: left.returned = rb_read_job(file, file_bytes, left.offsets, 64, &left.count); break;
+    case WRITE: left.returned = rb_write_record(17, outcome, 7, 120045, text, text_bytes, 20240430, 60000, left.out, 400, &left.count); break;
+    case PLACE: left.returned = rb_place(table, sizeof table, 5, 12, &left.numbers[0], &left.numbers[1]); restore(); break;
+    case TAKE_UP: left.returned = rb_take_up(table, sizeof table, &left.numbers[0], &left.numbers[1], &left.numbers[2]); restore(); break;
+    case ANSWER: left.returned = rb_answer(table, sizeof table, ticket, command, 1, 7, 120045, 20240430, 60000); restore(); break;
+    case COLLECT: left.returned = rb_collect(table, sizeof table, program, ticket, left.out, sizeof left.out, &left.count); restore(); break;
+    }
+}
+
+static void theirs(enum call call) {
+    switch (call) {
+    case READ: left.returned = plain_read_job(file, file_bytes, left.offsets, 64, &left.count); break;
+    case WRITE: left.returned = plain_write_record(17, outcome, 7, 120045, text, text_bytes, 20240430, 60000, left.out, 400, &left.count); break;
+    case PLACE: left.returned = plain_place(table, sizeof table, 5, 12, &left.numbers[0], &left.numbers[1]); restore(); break;
+    case TAKE_UP: left.returned = plain_take_up(table, sizeof table, &left.numbers[0], &left.numbers[1], &left.numbers[2]); restore(); break;
+    case ANSWER: left.returned = plain_answer(table, sizeof table, ticket, command, 1, 7, 120045, 20240430, 60000); restore(); break;
+    case COLLECT: left.returned = plain_collect(table, sizeof table, program, ticket, left.out, sizeof left.out, &left.count); restore(); break;
+    }
+}
+
+/* ---- the cases */
+
+struct measured {
+    char name[40];
+    enum call call;
+    int kind, size;
+};
+
+static struct measured cases[80];
+static int case_count;
+
+static void new_case(const char *name, enum call call, int kind, int size) {
+    struct measured *c = &cases[case_count++];
+    sprintf(c->name, "%s", name);
+    c->call = call;
+    c->kind = kind;
+    c->size = size;
+}
+
+static void all_cases(void) {
+    static const char *const reads[] = {"read/short", "read/typical", "read/64-statements", "read/long-strings", "read/comments",
+                                        "read/refused-early", "read/refused-late"};
+    static const char *const calls[] = {"place", "take-up", "answer", "collect"};
+    char name[40];
+    for (int i = 0; i < 7; i++) new_case(reads[i], READ, i, 0);
+    for (int n = 1; n <= 64; n *= 2) {
+        sprintf(name, "read-growth/%d", n);
+        new_case(name, READ, 7, n);
+    }
+    new_case("write/processed", WRITE, 0, 0);
+    new_case("write/error", WRITE, 1, 0);
+    for (int n = 1; n <= 256; n *= 4) {
+        sprintf(name, "write-growth/%d", n < 255 ? n : 255);
+        new_case(name, WRITE, 1, n < 255 ? n : 255);
+    }
+    for (int c = 0; c < 4; c++) {
+        sprintf(name, "%s/empty", calls[c]);
+        new_case(name, (enum call)(PLACE + c), 1, 1);
+        sprintf(name, "%s/full", calls[c]);
+        new_case(name, (enum call)(PLACE + c), 64, 32);
+        for (int n = 1; n <= 32; n *= 2) {
+            sprintf(name, "%s-growth/%d", calls[c], n);
+            new_case(name, (enum call)(PLACE + c), 64, n);
+        }
+    }
+}
+
+static int bytes_of(const struct measured *c) { return c->call == READ ? (int)file_bytes : c->size; }
+
+static void set_up(const struct measured *c) {
+    uint32_t count = (uint32_t)c->kind, n = (uint32_t)c->size;
+    memset(&left, 0, sizeof left);
+    switch (c->call) {
+    case READ:
+        if (c->kind == 0) typical(2);
+        if (c->kind == 1) typical(12);
+        if (c->kind == 2) typical(64);
+        if (c->kind == 3) long_strings();
+        if (c->kind == 4) comments();
+        if (c->kind == 5) refused_early();
+        if (c->kind == 6) refused_late();
+        if (c->kind == 7) typical(c->size);
+        break;
+    case WRITE:
+        outcome = (uint32_t)c->kind;
+        text_bytes = (size_t)c->size;
+        memset(text, 't', sizeof text);
+        break;
+    case PLACE: sessions(n, count, 0, false, false); break;
+    case TAKE_UP: sessions(n, count, count - 1, true, false); break;
+    case ANSWER: sessions(n, count, count - 1, true, true); break;
+    case COLLECT: sessions(n, count, count, true, false); break;
+    }
+}
+
+static void compare(const struct measured *c) {
+    static uint8_t first[sizeof left];
+    set_up(c);
+    ours(c->call);
+    memcpy(first, &left, sizeof left);
+    set_up(c);
+    theirs(c->call);
+    if (memcmp(first, &left, sizeof left)) {
+        printf("%s: the two sides differ: %u and %u\n", c->name, ((uint32_t *)(void *)first)[0], left.returned);
+        exit(1);
+    }
+}
+
+static double time_of(enum call call, void (*side)(enum call)) {
+    double best = 1e18;
+    for (int try = 0, n = 16; try < 7;) {
+        double a = now();
+        for (int i = 0; i < n; i++) side(call);
+        double t = now() - a;
+        if (t < 4e6) {
+            n *= 2;
+            continue;
+        }
+        if (t / n < best) best = t / n;
+        try++;
+    }
+    return best;
+}
+
+static void count(const struct measured *c, const char *side_name, void (*side)(enum call)) {
+    char label[80];
+    sprintf(label, "%.40s %d %.6s", c->name, bytes_of(c), side_name);
+    side(c->call);
+    CALLGRIND_ZERO_STATS;
+    side(c->call);
+    CALLGRIND_DUMP_STATS_AT(label);
+}
+
+int main(int argc, char **argv) {
+    all_cases();
+    if (argc == 5 && !strcmp(argv[1], "one")) {
+        struct measured *c = &cases[atoi(argv[2])];
+        set_up(c);
+        for (int i = atoi(argv[4]); i > 0; i--) (!strcmp(argv[3], "ours") ? ours : theirs)(c->call);
+        return 0;
+    }
+    for (int i = 0; i < case_count; i++) {
+        struct measured *c = &cases[i];
+        compare(c);
+        set_up(c);
+        if (argc > 1 && !strcmp(argv[1], "count")) {
+            count(c, "ours", ours);
+            count(c, "plain", theirs);
+        } else if (argc > 1 && !strcmp(argv[1], "list")) {
+            printf("%d %s %d\n", i, c->name, bytes_of(c));
+        } else {
+            printf("%s %d ours %.1f\n", c->name, bytes_of(c), time_of(c->call, ours));
+            printf("%s %d plain %.1f\n", c->name, bytes_of(c), time_of(c->call, theirs));
+        }
+    }
+    return 0;
+}

@@ -1,0 +1,163 @@
+/* The record writer with snprintf, and the session table as structs over the same bytes, with the same checks. */
+#include "plain.h"
+
+int snprintf(char *, unsigned long, const char *, ...);
+void *memcpy(void *, const void *, unsigned long);
+void *memset(void *, int, unsigned long);
+
+bool plain_is_real_date(uint32_t date) {
+    static const uint8_t days[13] = {0, 31, 29, 31, 30, 31, 30, 31, 31, 30, 31, 30, 31};
+    uint32_t year = date / 10000, month = date / 100 % 100, day = date % 100;
+    return year <= 9999 && month >= 1 && month <= 12 && day >= 1 && day <= days[month];
+}
+
+bool plain_is_real_time(uint32_t time) { return time / 10000 <= 23 && time / 100 % 100 <= 59 && time % 100 <= 59; }
+
+static bool is_text(const uint8_t *text, size_t n) {
+    if (n > 255) return false;
+    for (size_t i = 0; i < n; i++)
+        if (text[i] < 32 || text[i] == 34 || text[i] == 255) return false;
+    return true;
+}
+
+static bool is_outcome(uint32_t outcome, uint32_t error_class, uint32_t code) {
+    return outcome == 0 || (outcome == 1 && error_class <= 99 && code <= 99999999);
+}
+
+/* As snprintf does: the length that the record has, whether or not it fits. */
+static size_t print_record(char *out, size_t room, uint32_t number, uint32_t outcome, uint32_t error_class, uint32_t code, const uint8_t *text,
+                           size_t text_bytes, uint32_t date, uint32_t time) {
+    int n = outcome == 0 ? snprintf(out, room, "COMMAND %u PROCESSED \"%.*s\" %08u %02u:%02u:%02u;\r\n", number, (int)text_bytes,
+                                    (const char *)text, date, time / 10000, time / 100 % 100, time % 100)
+                         : snprintf(out, room, "COMMAND %u ERROR %02u %08u \"%.*s\" %08u %02u:%02u:%02u;\r\n", number, error_class, code,
+                                    (int)text_bytes, (const char *)text, date, time / 10000, time / 100 % 100, time % 100);
+    return (size_t)n;
+}
+
+uint32_t plain_write_record(uint32_t number, uint32_t outcome, uint32_t error_class, uint32_t code, const uint8_t *text, size_t text_bytes,
+                            uint32_t date, uint32_t time, uint8_t *out, size_t room, size_t *written) {
+    char record[308];
+    if (number < 1 || number > 64 || !is_outcome(outcome, error_class, code) || !is_text(text, text_bytes)) return 7;
+    if (!plain_is_real_date(date) || !plain_is_real_time(time)) return 5;
+    size_t n = print_record(record, sizeof record, number, outcome, error_class, code, text, text_bytes, date, time);
+    if (n > room) return 8;
+    memcpy(out, record, n);
+    *written = n;
+    return 0;
+}
+
+struct entry {
+    uint32_t kind, code, date, time;
+};
+
+struct session {
+    uint32_t program, count, answered, ticket;
+    struct entry entries[64];
+};
+
+struct table {
+    uint32_t max, last, mark, hand;
+    struct session sessions[32];
+};
+
+static bool is_entry(const struct entry *e) {
+    return (e->kind == 0 || (e->kind <= 100 && e->code <= 99999999)) && plain_is_real_date(e->date) && plain_is_real_time(e->time);
+}
+
+static bool is_session(const struct table *t, uint32_t s) {
+    const struct session *x = &t->sessions[s];
+    if (s >= t->max || x->program > 8 || x->count < 1 || x->count > 64 || x->answered > x->count || x->ticket < 1 || x->ticket > t->last)
+        return false;
+    for (uint32_t i = 0; i < s; i++)
+        if (t->sessions[i].program && t->sessions[i].ticket == x->ticket) return false;
+    for (uint32_t c = 0; c < x->answered; c++)
+        if (!is_entry(&x->entries[c])) return false;
+    return true;
+}
+
+static bool is_sound(const struct table *t, size_t n) {
+    if (n != sizeof *t || t->max < 1 || t->max > 32 || t->mark >= t->max || t->hand > t->max) return false;
+    for (uint32_t s = 0; s < 32; s++)
+        if (t->sessions[s].program && !is_session(t, s)) return false;
+    const struct session *held = t->hand ? &t->sessions[t->hand - 1] : 0;
+    return !held || (held->program && held->answered < held->count);
+}
+
+uint32_t plain_make(uint8_t *table, size_t n, uint32_t max) {
+    if (max < 1 || max > 32) return 11;
+    if (n != sizeof(struct table)) return 13;
+    struct table *t = (struct table *)(void *)table;
+    memset(t, 0, sizeof *t);
+    t->max = max;
+    t->mark = max - 1;
+    return 0;
+}
+
+uint32_t plain_place(uint8_t *table, size_t n, uint32_t program, uint32_t count, uint32_t *number, uint32_t *ticket) {
+    struct table *t = (struct table *)(void *)table;
+    if (!is_sound(t, n)) return 13;
+    if (program < 1 || program > 8 || count < 1 || count > 64) return 11;
+    uint32_t s = 0;
+    while (s < t->max && t->sessions[s].program) s++;
+    if (s == t->max) return 9;
+    if (t->last == UINT32_MAX) return 12;
+    struct session *x = &t->sessions[s];
+    x->program = program;
+    x->count = count;
+    x->answered = 0;
+    x->ticket = ++t->last;
+    *number = s;
+    *ticket = x->ticket;
+    return 0;
+}
+
+uint32_t plain_take_up(uint8_t *table, size_t n, uint32_t *number, uint32_t *ticket, uint32_t *command) {
+    struct table *t = (struct table *)(void *)table;
+    if (!is_sound(t, n)) return 13;
+    for (uint32_t i = 0; i < t->max && !t->hand; i++) {
+        uint32_t s = (t->mark + 1 + i) % t->max;
+        if (t->sessions[s].program && t->sessions[s].answered < t->sessions[s].count) {
+            t->mark = s;
+            t->hand = s + 1;
+        }
+    }
+    if (!t->hand) return 14;
+    *number = t->hand - 1;
+    *ticket = t->sessions[*number].ticket;
+    *command = t->sessions[*number].answered + 1;
+    return 0;
+}
+
+uint32_t plain_answer(uint8_t *table, size_t n, uint32_t ticket, uint32_t command, uint32_t outcome, uint32_t error_class, uint32_t code,
+                      uint32_t date, uint32_t time) {
+    struct table *t = (struct table *)(void *)table;
+    if (!is_sound(t, n)) return 13;
+    struct session *x = t->hand ? &t->sessions[t->hand - 1] : 0;
+    if (!x || x->ticket != ticket || x->answered + 1 != command) return 10;
+    if (!plain_is_real_date(date) || !plain_is_real_time(time)) return 5;
+    if (!is_outcome(outcome, error_class, code)) return 7;
+    x->entries[x->answered++] = (struct entry){outcome ? error_class + 1 : 0, outcome ? code : 0, date, time};
+    t->hand = 0;
+    return 0;
+}
+
+uint32_t plain_collect(uint8_t *table, size_t n, uint32_t program, uint32_t ticket, uint8_t *out, size_t room, size_t *written) {
+    struct table *t = (struct table *)(void *)table;
+    char reply[3320];
+    size_t at = 0;
+    if (!is_sound(t, n)) return 13;
+    if (program < 1 || program > 8) return 11;
+    uint32_t s = 0;
+    while (s < t->max && !(t->sessions[s].program == program && t->sessions[s].ticket == ticket)) s++;
+    if (s == t->max || t->sessions[s].answered < t->sessions[s].count) return 10;
+    struct session *x = &t->sessions[s];
+    for (uint32_t c = 0; c < x->count; c++) {
+        struct entry *e = &x->entries[c];
+        at += print_record(reply + at, sizeof reply - at, c + 1, e->kind != 0, e->kind - 1, e->code, (const uint8_t *)"", 0, e->date, e->time);
+    }
+    if (at > room) return 8;
+    memcpy(out, reply, at);
+    *written = at;
+    x->program = 0;
+    return 0;
+}

@@ -1,0 +1,74 @@
+// Job files.
+use crate::fields::mantissa_of;
+use crate::fields::statement_numbers;
+use crate::refusal;
+use job::JobAnswer;
+use job::StatementAnswer;
+ghost use mathlib.Core.Path.{_≡_};
+ghost use lib.ListN.{length};
+ghost use Rattle.token.specs.Token.{isTextAt};
+ghost use Rattle.job.specs.Job.{readJob, counted, filled, jobSays};
+ghost use Rattle.job.specs.Statement.{readStatement, statementSays, textAt};
+ghost use Rattle.raddlebrush.specs.Returned.{GivesCount, GivesStatement};
+
+fn give_job(a: JobAnswer, statements: &mut usize) -> u32
+    ensures { λ r. ⌜ GivesCount (jobSays a) r (now (statements .entry)) (now (statements .exit)) ⌝ }
+{
+    match a {
+        JobAnswer::Taken(n) => {
+            *statements = n;
+            0
+        }
+        JobAnswer::Refused(f) => refusal(f),
+    }
+}
+
+#[no_mangle]
+pub extern "C" fn rb_read_job(file: &[u8], offsets: &mut [u32], statements: &mut usize) -> u32
+    ensures { λ r. ⌜ GivesCount (counted (readJob (now (file .entry)) (length (now (offsets .entry))))) r (now (statements .entry)) (now (statements .exit))
+        × (now (offsets .exit) ≡ filled (readJob (now (file .entry)) (length (now (offsets .entry)))) (now (offsets .entry))) ⌝ }
+{
+    give_job(job::read_job(file, offsets), statements)
+}
+
+fn give_statement(a: StatementAnswer, fields: &mut [u64; 19], mantissa: &mut i64) -> u32
+    ensures { λ r. ⌜ GivesStatement (statementSays a) r (now (fields .entry)) (now (fields .exit)) (now (mantissa .entry)) (now (mantissa .exit)) ⌝ }
+{
+    match a {
+        StatementAnswer::Read(x) => {
+            let s = x.statement;
+            *fields = statement_numbers(s, x.offset, x.next);
+            *mantissa = mantissa_of(s);
+            0
+        }
+        StatementAnswer::Refused(f) => refusal(f),
+    }
+}
+
+#[no_mangle]
+pub extern "C" fn rb_read_statement(
+    file: &[u8],
+    at: usize,
+    fields: &mut [u64; 19],
+    mantissa: &mut i64,
+) -> u32
+    ensures { λ r. ⌜ GivesStatement (readStatement (now (file .entry)) at) r (now (fields .entry)) (now (fields .exit)) (now (mantissa .entry)) (now (mantissa .exit)) ⌝ }
+{
+    give_statement(job::read_statement(file, at), fields, mantissa)
+}
+
+#[no_mangle]
+pub extern "C" fn rb_is_text_at(file: &[u8], quote: usize) -> bool
+    ensures { λ r. ⌜ r ≡ isTextAt (now (file .entry)) quote ⌝ }
+{
+    job::is_text_at(file, quote)
+}
+
+// The text is the bytes after the quote: what is returned is their count.
+#[no_mangle]
+pub extern "C" fn rb_text_at(file: &[u8], quote: usize) -> usize
+    ensures { λ r. ⌜ r ≡ length (textAt (now (file .entry)) quote) ⌝ }
+{
+    let text = job::text_at(file, quote);
+    text.len()
+}

@@ -1,0 +1,423 @@
+//! Legal and damaged job files, records, names, numbers and session tables.
+
+use crate::random::Random;
+use crate::reference::record::{record_bytes, Outcome, Record};
+use crate::reference::table;
+use crate::reference::token::{OPERATORS, RESERVED};
+
+// ---- tokens
+
+pub fn word(r: &mut Random) -> Vec<u8> {
+    let length = match r.below(40) {
+        0 => 255,
+        1 => r.from(2, 254),
+        _ => r.from(1, 6),
+    };
+    word_of(r, length)
+}
+
+fn word_of(r: &mut Random, length: usize) -> Vec<u8> {
+    let first = b"abcxyzABCJTXZ";
+    let rest = b"abcxyzABCJTXZ0123456789_";
+    let mut w = vec![r.pick(first)];
+    while w.len() < length {
+        w.push(r.pick(rest));
+    }
+    w
+}
+
+fn text_byte(r: &mut Random) -> u8 {
+    loop {
+        let b = match r.below(4) {
+            0 => r.pick(b" \\//;;'=0aZ\x7f\x80\xfe\xfd ~!#"),
+            1 => r.from(32, 254) as u8,
+            _ => r.from(97, 122) as u8,
+        };
+        if b != 34 {
+            return b;
+        }
+    }
+}
+
+pub fn text(r: &mut Random) -> Vec<u8> {
+    let length = match r.below(30) {
+        0 => 255,
+        1 => r.from(0, 254),
+        2 => 0,
+        _ => r.from(0, 12),
+    };
+    (0..length).map(|_| text_byte(r)).collect()
+}
+
+fn quoted(r: &mut Random) -> Vec<u8> {
+    [b"\"", &text(r)[..], b"\""].concat()
+}
+
+fn digits(r: &mut Random, n: usize) -> Vec<u8> {
+    (0..n).map(|_| if r.once_in(4) { b'0' } else { b'0' + r.below(10) as u8 }).collect()
+}
+
+fn number_run(r: &mut Random) -> Vec<u8> {
+    let n = match r.below(6) {
+        0 => 16,
+        1 => 8,
+        _ => r.from(1, 16),
+    };
+    let mut run = digits(r, n);
+    if n > 1 && r.once_in(3) {
+        run.insert(r.from(1, n - 1), b'.');
+    }
+    if r.once_in(3) {
+        run.insert(0, b'-');
+    }
+    run
+}
+
+/// A date number, mostly real, else near one.
+pub fn date(r: &mut Random) -> u32 {
+    let any = r.below(10000) as u32;
+    let year = r.pick(&[0, 1, 1999, 2000, 2024, 9999, any]);
+    match r.below(12) {
+        0 => year * 10000 + r.below(14) as u32 * 100 + r.below(33) as u32,
+        1 => year * 10000 + r.pick(&[2, 4, 6, 9, 11]) * 100 + r.pick(&[29, 30, 31]),
+        2 => r.pick(&[0, 100_000_101, 99_999_999, u32::MAX, 1_000_000, 101, 99_991_231]),
+        _ => year * 10000 + r.from(1, 12) as u32 * 100 + r.from(1, 29) as u32,
+    }
+}
+
+/// A time number, mostly real, else near one.
+pub fn time(r: &mut Random) -> u32 {
+    match r.below(12) {
+        0 => r.pick(&[240000, 235960, 236000, 1_000_000, u32::MAX, 60, 6000, 99_999_999, 235959, 0]),
+        1 => r.below(25) as u32 * 10000 + r.below(61) as u32 * 100 + r.below(61) as u32,
+        _ => r.below(24) as u32 * 10000 + r.below(60) as u32 * 100 + r.below(60) as u32,
+    }
+}
+
+fn time_run(r: &mut Random) -> Vec<u8> {
+    let n = time(r) % 1_000_000;
+    format!("{:02}:{:02}:{:02}", n / 10000, n / 100 % 100, n % 100).into_bytes()
+}
+
+fn date_run(r: &mut Random) -> Vec<u8> {
+    format!("{:08}", date(r) % 100_000_000).into_bytes()
+}
+
+/// Any token at all, and now and then bytes that are none.
+fn any_token(r: &mut Random) -> Vec<u8> {
+    match r.below(16) {
+        0 | 1 => r.pick(&RESERVED).to_vec(),
+        2 => word(r),
+        3 => quoted(r),
+        4 => number_run(r),
+        5 => time_run(r),
+        6 => date_run(r),
+        7 => r.pick(&OPERATORS).to_vec(),
+        8 => b";".to_vec(),
+        9 => b"TIME>=".to_vec(),
+        10 => {
+            let n = r.from(256, 300);
+            word_of(r, n)
+        }
+        11 => [b"\"", &(0..r.from(256, 258)).map(|_| b'q').collect::<Vec<u8>>()[..], b"\""].concat(),
+        12 => digits(r, 17),
+        13 => r.pick(&[b"5." as &[u8], b"1.2.3", b"1e5", b"12:00", b"-12:00:00", b"--1", b".5", b"-", b"!", b"/", b"5x", b"1-1", b"2024.0430"]).to_vec(),
+        14 => r
+            .pick(&[b"job" as &[u8], b"TIME >=", b"TIME>==", b"xTIME>=", b"TIMES>=", b"JOBS", b"SET", b"==", b"=>", b"<>", b"! =", b"\"a", b"\"a\tb\"", b"\"\""])
+            .to_vec(),
+        _ => vec![r.below(256) as u8],
+    }
+}
+
+// ---- statements and job files
+
+fn target(r: &mut Random) -> Vec<u8> {
+    match r.below(3) {
+        0 => b"ACTIVE".to_vec(),
+        1 => quoted(r),
+        _ => word(r),
+    }
+}
+
+fn clause(r: &mut Random) -> Vec<Vec<u8>> {
+    let start = b"START".to_vec();
+    match r.below(6) {
+        0 | 1 => vec![],
+        2 => vec![start, b"IMMEDIATE".to_vec()],
+        3 => vec![start, b"TIME>=".to_vec(), time_run(r)],
+        4 => vec![start, b"TIME>=".to_vec(), time_run(r), date_run(r)],
+        _ => vec![start, word(r), r.pick(&OPERATORS).to_vec(), if r.once_in(2) { number_run(r) } else { quoted(r) }],
+    }
+}
+
+fn job_tokens(r: &mut Random) -> Vec<Vec<u8>> {
+    vec![b"JOB".to_vec(), word(r), b"RESPONSE".to_vec(), quoted(r), b";".to_vec()]
+}
+
+fn later_tokens(r: &mut Random) -> Vec<Vec<u8>> {
+    let mut tokens = match r.below(6) {
+        0 => vec![b"GETINFO".to_vec(), quoted(r)],
+        1 => vec![b"ABORT".to_vec(), r.pick(&[b"REPORT" as &[u8], b"EVENT"]).to_vec(), word(r)],
+        _ => {
+            let mut t = vec![r.pick(&[b"UPLOAD" as &[u8], b"DOWNLOAD"]).to_vec(), quoted(r), target(r)];
+            t.extend(clause(r));
+            t
+        }
+    };
+    tokens.push(b";".to_vec());
+    tokens
+}
+
+fn blank(r: &mut Random, out: &mut Vec<u8>) {
+    match r.below(12) {
+        0 => out.extend(b"\r\n"),
+        1 => out.push(b'\t'),
+        2 => out.extend(b"  "),
+        3 => {
+            out.extend(b"//");
+            for _ in 0..r.below(20) {
+                let b = r.below(256) as u8;
+                if b != b'\r' && b != b'\n' {
+                    out.push(b);
+                }
+            }
+            out.push(r.pick(b"\r\n"));
+        }
+        _ => out.push(b' '),
+    }
+}
+
+/// The tokens with blanks between them: always where two would run together, else often.
+fn spaced(r: &mut Random, tokens: &[Vec<u8>]) -> Vec<u8> {
+    let wordy = |b: u8| b.is_ascii_alphanumeric() || b == b'_' || b == b'.' || b == b':';
+    let tight = r.once_in(4);
+    let mut out = Vec::new();
+    if r.once_in(8) {
+        blank(r, &mut out);
+    }
+    for t in tokens {
+        let joins = out.last().zip(t.first()).is_some_and(|(a, b)| (wordy(*a) && wordy(*b)) || (b"!=<>".contains(a) && *b == b'=') || (out.ends_with(b"TIME") && *b == b'>'));
+        if joins || !(tight || t == b";") || r.once_in(20) {
+            blank(r, &mut out);
+        }
+        out.extend(t);
+    }
+    if r.once_in(4) {
+        blank(r, &mut out);
+    }
+    out
+}
+
+fn damage_tokens(r: &mut Random, tokens: &mut Vec<Vec<u8>>) {
+    let i = r.below(tokens.len());
+    match r.below(4) {
+        0 => drop(tokens.remove(i)),
+        1 => tokens[i] = any_token(r),
+        2 => tokens.insert(i, any_token(r)),
+        _ => {
+            let j = r.below(tokens.len());
+            tokens.swap(i, j)
+        }
+    }
+    if tokens.is_empty() {
+        tokens.push(any_token(r));
+    }
+}
+
+pub fn damage_bytes(r: &mut Random, bytes: &mut Vec<u8>) {
+    let b = if r.once_in(2) { r.pick(b"\" ;/=<>-.:_09aZ\r\n\t!\\") } else { r.below(256) as u8 };
+    let n = bytes.len();
+    match r.below(4) {
+        0 => bytes.truncate(r.below(n + 1)),
+        1 if n > 0 => bytes[r.below(n)] = b,
+        2 if n > 0 => drop(bytes.remove(r.below(n))),
+        _ => bytes.insert(r.below(n + 1), b),
+    }
+}
+
+/// How many statements: mostly few, often around the limit.
+fn statement_count(r: &mut Random) -> usize {
+    match r.below(30) {
+        0 => 64,
+        1 => 65,
+        2 => r.from(2, 70),
+        _ => r.from(1, 6),
+    }
+}
+
+pub fn job_file(r: &mut Random) -> Vec<u8> {
+    let mut tokens = job_tokens(r);
+    for _ in 1..statement_count(r) {
+        tokens.extend(later_tokens(r));
+    }
+    for _ in 0..r.pick(&[0, 0, 0, 1, 1, 2]) {
+        damage_tokens(r, &mut tokens);
+    }
+    if r.once_in(6) {
+        tokens.push(any_token(r));
+    }
+    let mut file = spaced(r, &tokens);
+    for _ in 0..r.pick(&[0, 0, 0, 1, 1, 3]) {
+        damage_bytes(r, &mut file);
+    }
+    file
+}
+
+/// A job file near the limit of 65,535 bytes: a comment takes up the rest.
+pub fn long_file(r: &mut Random) -> Vec<u8> {
+    let mut file = job_file(r);
+    let length = r.pick(&[65_534, 65_535, 65_535, 65_536, 70_000]);
+    let filler = b"// filler\n";
+    let at = if r.once_in(2) { file.len() } else { 0 };
+    let mut fill = b"\n".to_vec();
+    while fill.len() + file.len() < length {
+        fill.push(filler[fill.len() % filler.len()]);
+    }
+    file.splice(at..at, fill);
+    file.truncate(length);
+    file
+}
+
+/// Statements read on their own: one begins at the offset given, which is now and then another.
+pub fn statement_file(r: &mut Random) -> (Vec<u8>, usize) {
+    let mut tokens = if r.once_in(6) { job_tokens(r) } else { later_tokens(r) };
+    for _ in 0..r.pick(&[0, 0, 0, 1, 1, 2]) {
+        damage_tokens(r, &mut tokens);
+    }
+    let before: Vec<u8> = (0..r.below(9)).map(|_| r.below(256) as u8).collect();
+    let mut file = spaced(r, &tokens);
+    if r.once_in(3) {
+        damage_bytes(r, &mut file);
+    }
+    let file = [&before[..], &file, &any_token(r)].concat();
+    let at = match r.below(8) {
+        0 => r.below(file.len() + 4),
+        1 => file.len() - r.below(3).min(file.len()),
+        2 => r.pick(&[usize::MAX, usize::MAX - 1, 1 << 32, (1 << 32) + before.len(), 65_536]),
+        _ => before.len(),
+    };
+    (file, at)
+}
+
+/// A place of a file: mostly one with a quote.
+pub fn quote(r: &mut Random, file: &[u8]) -> usize {
+    let quotes: Vec<usize> = (0..file.len()).filter(|i| file[*i] == 34).collect();
+    let any = r.below(file.len() + 3);
+    if quotes.is_empty() || r.once_in(6) { r.pick(&[file.len(), usize::MAX, any]) } else { r.pick(&quotes) }
+}
+
+// ---- records
+
+pub fn outcome(r: &mut Random) -> Outcome {
+    if r.once_in(2) {
+        return Outcome::Processed;
+    }
+    let class = if r.once_in(12) { r.pick(&[100, 255, 256, u32::MAX]) } else { r.below(100) as u32 };
+    let code = match r.below(12) {
+        0 => r.pick(&[100_000_000, u32::MAX, 1 << 27]),
+        1 => r.pick(&[0, 1, 99_999_999, 10_000_000, 9_999_999]),
+        _ => r.below(100_000_000) as u32,
+    };
+    Outcome::Error { class, code }
+}
+
+pub fn record(r: &mut Random) -> Record {
+    let number = if r.once_in(12) { r.pick(&[0, 65, 100, u32::MAX]) } else { r.from(1, 64) as u32 };
+    let mut text = text(r);
+    if r.once_in(12) {
+        damage_bytes(r, &mut text);
+    }
+    if r.once_in(20) {
+        text = vec![b't'; r.from(254, 257)];
+    }
+    Record { number, outcome: outcome(r), text, date: date(r), time: time(r) }
+}
+
+/// Bytes that are a record, or nearly one.
+pub fn record_input(r: &mut Random) -> Vec<u8> {
+    let mut bytes = record_bytes(&record(r));
+    for _ in 0..r.pick(&[0, 0, 1, 1, 2]) {
+        damage_bytes(r, &mut bytes);
+    }
+    if r.once_in(20) {
+        bytes.extend(record_bytes(&record(r)));
+    }
+    if r.once_in(20) && bytes.len() > 8 {
+        bytes = [b"COMMAND 0", &bytes[8..]].concat();
+    }
+    if r.once_in(10) && !bytes.is_empty() {
+        let n = bytes.len();
+        bytes.swap(r.below(n), r.below(n));
+    }
+    bytes
+}
+
+// ---- names
+
+pub fn max(r: &mut Random) -> u32 {
+    if r.once_in(10) { r.pick(&[0, 33, 256, u32::MAX]) } else { r.from(1, 32) as u32 }
+}
+
+pub fn session_number(r: &mut Random, max: u32) -> u32 {
+    match r.below(8) {
+        0 => max,
+        1 => max.wrapping_sub(1),
+        2 => r.pick(&[9999, 10000, u32::MAX, 33]),
+        _ => r.below(34) as u32,
+    }
+}
+
+pub fn name_input(r: &mut Random, max: u32) -> Vec<u8> {
+    let mut bytes = format!("SESS{:04}.{}", session_number(r, max), r.pick(&["REQ", "RSP"])).into_bytes();
+    if r.once_in(3) {
+        damage_bytes(r, &mut bytes);
+    }
+    if r.once_in(10) {
+        bytes.make_ascii_lowercase();
+    }
+    bytes
+}
+
+// ---- session tables
+
+/// Numbers at and beside the ends of what may stand in a column: of the table's own row, of a session's head, of an answer.
+fn near(r: &mut Random, row: usize, command: usize, column: usize) -> u32 {
+    match (row, command, column) {
+        (0, _, 0) => r.pick(&[0, 1, 31, 32, 33]),
+        (0, _, 1) => r.pick(&[0, 1, 2, 5, u32::MAX]),
+        (0, _, _) => r.from(0, 34) as u32,
+        (_, 0, 0) => r.pick(&[0, 1, 7, 8, 9]),
+        (_, 0, 1) | (_, 0, 2) => r.pick(&[0, 1, 2, 3, 63, 64, 65]),
+        (_, 0, _) => r.pick(&[0, 1, 2, 3, u32::MAX]),
+        (_, _, 0) => r.pick(&[0, 1, 99, 100, 101, u32::MAX]),
+        (_, _, 1) => r.pick(&[0, 99_999_999, 100_000_000, u32::MAX]),
+        (_, _, 2) => date(r),
+        _ => time(r),
+    }
+}
+
+/// Changes one number of the table to what may stand there or may not: mostly one that counts.
+pub fn damage_table(r: &mut Random, bytes: &mut [u8]) {
+    let standing: Vec<usize> = (0..table::SESSIONS).filter(|s| table::number(bytes, table::row_of(*s, 0), 0) != 0).collect();
+    let session = if standing.is_empty() || r.once_in(6) { r.below(table::SESSIONS) } else { r.pick(&standing) };
+    let answered = table::number(bytes, table::row_of(session, 0), 2) as usize;
+    let command = match r.below(3) {
+        0 => 0,
+        1 if (1..=table::COMMANDS).contains(&answered) => r.from(1, answered),
+        _ => r.below(table::COMMANDS + 1),
+    };
+    let row = if r.once_in(4) { 0 } else { table::row_of(session, command) };
+    let column = r.below(4);
+    let old = table::number(bytes, row, column);
+    let value = match r.below(6) {
+        0 => old.wrapping_add(1),
+        1 => old.wrapping_sub(1),
+        2 => old ^ (1 << r.below(32)),
+        3 if !standing.is_empty() => {
+            let other = r.pick(&standing);
+            table::number(bytes, table::row_of(other, 0), 3)
+        }
+        _ => near(r, row, command, column),
+    };
+    table::put_number(bytes, row, column, value);
+}

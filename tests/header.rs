@@ -1,0 +1,170 @@
+//! Holds include/raddlebrush.h against the Rattle source: each exported call with the names, the number and the widths of its parameters,
+//! and each constant. Run in the repository's root.
+
+use std::collections::BTreeMap;
+use std::fs;
+
+/// A call: the C types of its parameters with their names, and of what it returns.
+type Calls = BTreeMap<String, (Vec<String>, String)>;
+
+/// The Rattle files of a crate, one after the other.
+fn source(name: &str) -> String {
+    let mut paths: Vec<_> = fs::read_dir(format!("crates/{name}/src")).expect("a crate's source").map(|f| f.unwrap().path()).collect();
+    paths.sort();
+    paths.iter().map(|p| fs::read_to_string(p).unwrap()).collect()
+}
+
+fn squeezed(text: &str) -> String {
+    text.split_whitespace().collect::<Vec<_>>().join(" ")
+}
+
+// ---- the Rattle side
+
+fn number_type(t: &str) -> &str {
+    match t {
+        "u8" => "uint8_t",
+        "u32" => "uint32_t",
+        "u64" => "uint64_t",
+        "i64" => "int64_t",
+        "usize" => "size_t",
+        "bool" => "bool",
+        other => panic!("a type that the header has no word for: {other}"),
+    }
+}
+
+/// The C parameters of one of Rattle's: a slice is a pointer and a length.
+fn parameters(name: &str, t: &str) -> Vec<String> {
+    let (constant, behind) = match t.strip_prefix("&mut ") {
+        Some(rest) => ("", rest),
+        None => match t.strip_prefix('&') {
+            Some(rest) => ("const ", rest),
+            None => return vec![format!("{} {name}", number_type(t))],
+        },
+    };
+    match behind.strip_prefix('[').and_then(|b| b.strip_suffix(']')) {
+        None => vec![format!("{constant}{} *{name}", number_type(behind))],
+        Some(slice) => match slice.split_once("; ") {
+            None => vec![format!("{constant}{} *{name}", number_type(slice)), "size_t".into()],
+            Some((element, count)) => vec![format!("{constant}{} {name}[{count}]", number_type(element))],
+        },
+    }
+}
+
+fn rattle_calls(text: &str) -> Calls {
+    let mut calls = Calls::new();
+    for item in text.split("pub extern \"C\" fn ").skip(1) {
+        let (name, rest) = item.split_once('(').unwrap();
+        let (inner, rest) = rest.split_once(')').unwrap();
+        let given = inner.split(',').map(squeezed).filter(|p| !p.is_empty());
+        let taken = given.flat_map(|p| {
+            let (name, t) = p.split_once(": ").unwrap();
+            parameters(name, t)
+        });
+        let returned = rest.trim_start().strip_prefix("-> ").expect("every call returns a number").split_whitespace().next().unwrap();
+        calls.insert(name.to_string(), (taken.collect(), number_type(returned).to_string()));
+    }
+    calls
+}
+
+/// The constants of a source by their names, where their value is written out.
+fn rattle_constants(text: &str) -> BTreeMap<String, u64> {
+    let lines = text.lines().filter_map(|l| l.trim().strip_prefix("pub const "));
+    lines
+        .filter_map(|l| {
+            let (name, rest) = l.split_once(':')?;
+            let value = rest.split_once("= ")?.1.strip_suffix(';')?.parse().ok()?;
+            Some((name.to_string(), value))
+        })
+        .collect()
+}
+
+// ---- the header
+
+fn without_comments(text: &str) -> String {
+    let mut out = String::new();
+    let mut rest = text;
+    while let Some((before, after)) = rest.split_once("/*") {
+        out.push_str(before);
+        rest = after.split_once("*/").unwrap().1;
+    }
+    out + rest
+}
+
+fn header_constants(text: &str) -> BTreeMap<String, u64> {
+    text.lines()
+        .filter_map(|l| {
+            let (name, value) = l.strip_prefix("#define RB_")?.split_once(' ')?;
+            Some((name.to_string(), value.trim().trim_end_matches('u').parse().expect("a number")))
+        })
+        .collect()
+}
+
+/// A parameter with the name left out where it is a length, a constant put in, and C's word for a class.
+fn header_parameter(p: &str, constants: &BTreeMap<String, u64>) -> String {
+    let mut p = squeezed(p).replace("error_class", "class");
+    for (name, value) in constants {
+        p = p.replace(&format!("[RB_{name}]"), &format!("[{value}]"));
+    }
+    if p.starts_with("size_t ") && !p.contains('*') && !["at", "quote"].iter().any(|n| p.ends_with(&format!(" {n}"))) { "size_t".into() } else { p }
+}
+
+fn header_calls(text: &str, constants: &BTreeMap<String, u64>) -> Calls {
+    let lines: Vec<&str> = text.lines().filter(|l| !l.starts_with('#') && !l.starts_with("static inline")).collect();
+    let mut calls = Calls::new();
+    for item in lines.join("\n").split(';') {
+        let Some((before, rest)) = item.split_once('(') else { continue };
+        let words = squeezed(before);
+        let Some((returned, name)) = words.rsplit_once(' ') else { continue };
+        let inner = rest.rsplit_once(')').unwrap().0;
+        let returned = returned.rsplit(' ').next().unwrap().to_string();
+        calls.insert(name.to_string(), (inner.split(',').map(|p| header_parameter(p, constants)).collect(), returned));
+    }
+    calls
+}
+
+/// The fields of a statement and of a record, in the order in which the calls write them and calls.rs expects them.
+const STATEMENT: &str = "KIND OFFSET NEXT FILE NAME NAME_LENGTH ABORTED SOURCE SOURCE_PLACE SOURCE_LENGTH START START_TIME START_DATE PARAMETER \
+    PARAMETER_LENGTH OPERATOR OPERAND OPERAND_PLACE SCALE STATEMENT_FIELDS";
+const RECORD: &str = "RECORD_NUMBER RECORD_OUTCOME RECORD_CLASS RECORD_CODE RECORD_TEXT RECORD_TEXT_LENGTH RECORD_DATE RECORD_TIME RECORD_FIELDS";
+
+/// Constants that follow from others.
+fn derived(c: &BTreeMap<String, u64>) -> Vec<(&'static str, u64)> {
+    let limit = |name: &str| c[name];
+    let fields = [STATEMENT, RECORD].into_iter().flat_map(|names| names.split_whitespace().zip(0..));
+    let reply: u64 = (1..=limit("COMMANDS")).map(|n| 50 + n.to_string().len() as u64).sum();
+    let mut all = vec![
+        ("RECORD_BYTES", 50 + limit("COMMANDS").to_string().len() as u64 + limit("TEXT_BYTES")),
+        ("REPLY_BYTES", reply),
+        ("TABLE_BYTES", 16 * (1 + limit("SESSIONS") * (1 + limit("COMMANDS")))),
+        ("DONE", 0),
+    ];
+    all.extend(fields);
+    all
+}
+
+fn main() {
+    let header = without_comments(&fs::read_to_string("include/raddlebrush.h").unwrap());
+    let rattle = source("raddlebrush");
+    let mut known = rattle_constants(&(source("counts") + &source("session_name") + &rattle));
+    known.extend(derived(&known).into_iter().map(|(name, value)| (name.to_string(), value)));
+    let constants = header_constants(&header);
+    let mut faults = 0;
+    for (name, value) in &constants {
+        if known.get(name) != Some(value) {
+            println!("RB_{name} is {value} in the header, and {:?} in the source", known.get(name));
+            faults += 1;
+        }
+    }
+    let (ours, theirs) = (rattle_calls(&rattle), header_calls(&header, &constants));
+    let names: std::collections::BTreeSet<_> = ours.keys().chain(theirs.keys()).collect();
+    for name in names {
+        if ours.get(name) != theirs.get(name) {
+            println!("{name}\n  source {:?}\n  header {:?}", ours.get(name), theirs.get(name));
+            faults += 1;
+        }
+    }
+    println!("{} calls and {} constants of the header, {faults} unlike the source", theirs.len(), constants.len());
+    if faults > 0 || ours.is_empty() {
+        std::process::exit(1);
+    }
+}

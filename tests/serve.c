@@ -1,0 +1,250 @@
+/* Makes the calls that it is asked for on standard input, and says on standard output what they answered and what they left in the
+ * memory lent to them. tests/main.rs asks. It names the few functions of the C library itself, so that it compiles for x86-64 without
+ * that library's headers.
+ *
+ * A request is one byte for the call, then its arguments: numbers of eight bytes, and bytes after their count. An answer stands after the
+ * count of its bytes. Answers are sent when 'F' asks for them, so that neither side waits for the other. */
+#include "raddlebrush.h"
+
+long read(int, void *, unsigned long);
+long write(int, const void *, unsigned long);
+void *realloc(void *, unsigned long);
+void *memcpy(void *, const void *, unsigned long);
+void *memset(void *, int, unsigned long);
+int memcmp(const void *, const void *, unsigned long);
+void _exit(int);
+
+/* ---- what comes in, and what goes out */
+
+static uint8_t in[1 << 16];
+static size_t in_at, in_end;
+
+static int byte_in(void) {
+    if (in_at == in_end) {
+        long n = read(0, in, sizeof in);
+        if (n <= 0) return -1;
+        in_at = 0;
+        in_end = (size_t)n;
+    }
+    return in[in_at++];
+}
+
+static uint64_t number_in(void) {
+    uint64_t n = 0;
+    for (int i = 0; i < 8; i++) {
+        int b = byte_in();
+        if (b < 0) _exit(2);
+        n |= (uint64_t)b << (8 * i);
+    }
+    return n;
+}
+
+static uint8_t *out;
+static size_t out_at, out_room;
+
+static void bytes_out(const void *bytes, size_t n) {
+    if (out_at + n > out_room) {
+        out_room = 2 * (out_at + n);
+        out = realloc(out, out_room);
+        if (!out) _exit(3);
+    }
+    memcpy(out + out_at, bytes, n);
+    out_at += n;
+}
+
+static void number_out(uint64_t n) {
+    uint8_t b[8];
+    for (int i = 0; i < 8; i++) b[i] = (uint8_t)(n >> (8 * i));
+    bytes_out(b, 8);
+}
+
+/* The count of the bytes of the answer that began at start. */
+static void count_out(size_t start) {
+    size_t n = out_at - start - 8;
+    for (int i = 0; i < 8; i++) out[start + (size_t)i] = (uint8_t)(n >> (8 * i));
+}
+
+static void flush(void) {
+    for (size_t at = 0; at < out_at;) {
+        long n = write(1, out + at, out_at - at);
+        if (n <= 0) _exit(4);
+        at += (size_t)n;
+    }
+    out_at = 0;
+}
+
+/* ---- memory lent to a call: 32 bytes stand before it and after it, and must stay as they are */
+
+struct lent {
+    uint8_t *all;
+    size_t all_room, bytes;
+};
+
+static uint8_t *lend(struct lent *m, size_t bytes) {
+    if (bytes + 64 > m->all_room) {
+        m->all_room = 2 * (bytes + 64);
+        m->all = realloc(m->all, m->all_room);
+        if (!m->all) _exit(3);
+    }
+    m->bytes = bytes;
+    memset(m->all, 0xC5, 32);
+    memset(m->all + 32 + bytes, 0xC5, 32);
+    return m->all + 32;
+}
+
+static uint8_t *lend_in(struct lent *m) {
+    size_t n = (size_t)number_in();
+    uint8_t *p = lend(m, n);
+    for (size_t i = 0; i < n; i++) p[i] = (uint8_t)byte_in();
+    return p;
+}
+
+static void see_edges(struct lent *m) {
+    for (int i = 0; i < 32; i++)
+        if (m->all[i] != 0xC5 || m->all[32 + m->bytes + (size_t)i] != 0xC5) _exit(5);
+}
+
+static void lent_out(struct lent *m) {
+    see_edges(m);
+    bytes_out(m->all + 32, m->bytes);
+}
+
+/* ---- the calls. Numbers that a call may write are 77 before it. */
+
+#define U32 (uint32_t)number_in()
+
+static struct lent first, second, table, old;
+
+/* What the last call on the table changed: rows of 16 bytes, each after its number. */
+static void changes_out(void) {
+    see_edges(&table);
+    uint8_t *now = table.all + 32, *was = old.all + 32;
+    for (size_t at = 0; at < table.bytes; at += 16) {
+        size_t n = table.bytes - at < 16 ? table.bytes - at : 16;
+        if (memcmp(now + at, was + at, n)) {
+            number_out(at);
+            bytes_out(now + at, n);
+            memcpy(was + at, now + at, n);
+        }
+    }
+    number_out(UINT64_MAX);
+}
+
+static void table_call(int call) {
+    uint8_t *t = table.all + 32;
+    size_t n = table.bytes, written = 77;
+    uint32_t number = 77, ticket = 77, command = 77;
+    uint64_t a[8];
+    int arguments = call == 'm' ? 1 : call == 'p' ? 2 : call == 'u' ? 0 : call == 'a' ? 7 : 3;
+    for (int i = 0; i < arguments; i++) a[i] = number_in();
+#define A(i) (uint32_t)a[i]
+    if (call == 'm') number_out(rb_make(t, n, A(0)));
+    if (call == 'p') number_out(rb_place(t, n, A(0), A(1), &number, &ticket));
+    if (call == 'u') number_out(rb_take_up(t, n, &number, &ticket, &command));
+    if (call == 'a') number_out(rb_answer(t, n, A(0), A(1), A(2), A(3), A(4), A(5), A(6)));
+    if (call == 'c') {
+        uint8_t *room = lend(&first, (size_t)a[2]);
+        memset(room, 0x5A, first.bytes);
+        number_out(rb_collect(t, n, A(0), A(1), room, first.bytes, &written));
+        number_out(written);
+        lent_out(&first);
+    }
+    if (call == 'p' || call == 'u') {
+        number_out(number);
+        number_out(ticket);
+    }
+    if (call == 'u') number_out(command);
+    changes_out();
+}
+
+static void file_call(int call) {
+    uint8_t *file = lend_in(&first);
+    size_t n = first.bytes;
+    if (call == 'J') {
+        size_t places = (size_t)number_in(), statements = 77;
+        uint8_t *offsets = lend(&second, 4 * places);
+        memset(offsets, 0x5A, second.bytes);
+        number_out(rb_read_job(file, n, (uint32_t *)(void *)offsets, places, &statements));
+        number_out(statements);
+        lent_out(&second);
+    }
+    if (call == 'S') {
+        uint64_t fields[RB_STATEMENT_FIELDS];
+        int64_t mantissa = 77;
+        for (int i = 0; i < RB_STATEMENT_FIELDS; i++) fields[i] = 77;
+        number_out(rb_read_statement(file, n, (size_t)number_in(), fields, &mantissa));
+        for (int i = 0; i < RB_STATEMENT_FIELDS; i++) number_out(fields[i]);
+        number_out((uint64_t)mantissa);
+    }
+    if (call == 'T') {
+        size_t quote = (size_t)number_in();
+        number_out(rb_is_text_at(file, n, quote));
+        number_out(rb_text_at(file, n, quote));
+    }
+    if (call == 'R') {
+        uint64_t fields[RB_RECORD_FIELDS];
+        for (int i = 0; i < RB_RECORD_FIELDS; i++) fields[i] = 77;
+        number_out(rb_read_record(file, n, fields));
+        for (int i = 0; i < RB_RECORD_FIELDS; i++) number_out(fields[i]);
+    }
+    if (call == 'N') {
+        uint32_t number = 77, kind = 77;
+        number_out(rb_read_name(file, n, U32, &number, &kind));
+        number_out(number);
+        number_out(kind);
+    }
+    if (call == 'W') {
+        uint64_t a[7];
+        for (int i = 0; i < 7; i++) a[i] = number_in();
+        uint8_t *room = lend(&second, (size_t)a[6]);
+        size_t written = 77;
+        memset(room, 0x5A, second.bytes);
+        number_out(rb_write_record(A(0), A(1), A(2), A(3), file, n, A(4), A(5), room, second.bytes, &written));
+        number_out(written);
+        lent_out(&second);
+    }
+    see_edges(&first);
+}
+
+static void name_written(void) {
+    uint64_t a[4];
+    for (int i = 0; i < 4; i++) a[i] = number_in();
+    uint8_t *room = lend(&first, (size_t)a[3]);
+    size_t written = 77;
+    memset(room, 0x5A, first.bytes);
+    number_out(rb_write_name(A(0), A(1), A(2), room, first.bytes, &written));
+    number_out(written);
+    lent_out(&first);
+}
+
+static void answered(int call) {
+    switch (call) {
+    case 'm': case 'p': case 'u': case 'a': case 'c': table_call(call); break;
+    case 'O': name_written(); break;
+    case 'D': {
+        uint32_t n = U32;
+        number_out(rb_is_real_date(n));
+        number_out(rb_is_real_time(n));
+        break;
+    }
+    default: file_call(call);
+    }
+}
+
+int main(void) {
+    for (;;) {
+        int call = byte_in();
+        if (call < 0) return 0;
+        if (call == 'F') {
+            flush();
+        } else if (call == 'L') { /* a table's bytes are lent from here on */
+            lend_in(&table);
+            memcpy(lend(&old, table.bytes), table.all + 32, table.bytes);
+        } else {
+            size_t start = out_at;
+            number_out(0);
+            answered(call);
+            count_out(start);
+        }
+    }
+}
