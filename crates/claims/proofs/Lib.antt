@@ -1,4 +1,5 @@
 pub mod Examples
 pub mod Demand1Names
+pub mod Demand1Records
 pub mod Demand1Table
 pub mod StandIns
