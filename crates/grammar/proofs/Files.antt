@@ -20,26 +20,22 @@ use Rattle.grammar.proofs.Moves.{Moved, moved, Fine, fine, moves-append
 use Rattle.grammar.proofs.Moves.Moved.{goes, begins}
 use Rattle.grammar.proofs.Moves.Fine.{fresh, running}
 
--- a point that a token leads on from, to the end of a statement
-not-dead : (q : Point) (k : List Class) → walk q k ≡ done → isPoint q dead ≡ false
-not-dead q k w = go (isPoint q dead) refl
+-- a point from which a statement ends is none from which the same classes lead nowhere
+elsewhere : (q r : Point) (k : List Class) → walk r k ≡ dead → walk q k ≡ done → isPoint q r ≡ false
+elsewhere q r k d w = go (isPoint q r) refl
   where
-    go : (b : Bool) → isPoint q dead ≡ b → b ≡ false
+    go : (b : Bool) → isPoint q r ≡ b → b ≡ false
     go false e = refl
-    go true e = absurd (dead≢done (sym (stays k) ∙ ap (λ (p : Point). walk p k) (sym (is-point q dead e)) ∙ w))
+    go true e = absurd (dead≢done (sym d ∙ ap (λ (p : Point). walk p k) (sym (is-point q r e)) ∙ w))
 
-not-done : (q : Point) (c : Class) (k : List Class) → walk q (c ∷ k) ≡ done → isPoint q done ≡ false
-not-done q c k w = go (isPoint q done) refl
-  where
-    go : (b : Bool) → isPoint q done ≡ b → b ≡ false
-    go false e = refl
-    go true e = absurd (dead≢done (sym (stays k) ∙ ap (λ (p : Point). walk p (c ∷ k)) (sym (is-point q done e)) ∙ w))
+not-dead : (q : Point) (k : List Class) → walk q k ≡ done → isPoint q dead ≡ false
+not-dead q k w = elsewhere q dead k (stays k) w
 
 -- within a statement the reader goes the way of its classes
-walks : (a : List Placed) (q : Point) (os : List ℕ) → walk q (classes a) ≡ done → moves (on q os) a ≡ on done os
+pub walks : (a : List Placed) (q : Point) (os : List ℕ) → walk q (classes a) ≡ done → moves (on q os) a ≡ on done os
 walks [] q os w = ap (λ (p : Point). on p os) w
 walks (t ∷ a) q os w =
-    let d : isPoint q done ≡ false = not-done q (t .class) (classes a) w in
+    let d : isPoint q done ≡ false = elsewhere q done (t .class ∷ classes a) (stays (classes a)) w in
     let l : isPoint (step q (t .class)) dead ≡ false = not-dead (step q (t .class)) (classes a) w in
     ap (λ (s : State). moves s a) (rw (d, l)) ∙ walks a (step q (t .class)) os w
 

@@ -4,10 +4,12 @@ use mathlib.Core.Path.{_≡_, refl, sym, _∙_, ap, subst}
 use mathlib.Core.Logic.{_⊎_, inl, inr}
 use mathlib.Core.Bool.{Bool, true, false, cond}
 use mathlib.Core.List.{List, [], _∷_, _++_}
-use Prim.Native.Nat.{ℕ}
+use Prim.Native.Nat.{ℕ, _<_}
 use native.Mathlib.Omega.{arith}
 use borrow.Author.Tests.{eqb-true}
-use Rattle.grammar.specs.Grammar.{Class, Point, Edge, next, look, step, walk, isClass, isPoint, classNo, classOf, pointNo, pointOf}
+use lib.Dec.{lit<}
+use lib.ListN.{getD}
+use Rattle.grammar.specs.Grammar.{Class, Point, Edge, next, look, step, walk, isClass, isPoint, classNo, pointNo}
 use Rattle.grammar.specs.Grammar.Class.{JOB, RESPONSE, UPLOAD, DOWNLOAD, GETINFO, ABORT, REPORT, EVENT, START, ACTIVE, IMMEDIATE, reserved, name, TIME≥, number, date, unrealDate, time, unrealTime, string, operator, semicolon}
 use Rattle.grammar.specs.Grammar.Point.{first, between, statement, jobName, jobResponse, jobFile, moveFile, moveSource, moveStart, startKind, startTime, startDate, startOperator, startValue, infoFile, abortKind, abortName, ending, done, dead}
 use Rattle.grammar.specs.Productions.{Start, Move, Job, Other, Any, Ended}
@@ -20,30 +22,36 @@ use Rattle.grammar.specs.Productions.Other.{upload, download, getinfo, a
 use Rattle.grammar.specs.Productions.Any.{the-job, another}
 use Rattle.grammar.specs.Productions.Ended.{ended}
 
--- classes and points are told apart by their numbers
-class-again : (c : Class) → classOf (classNo c) ≡ c
-class-again JOB = refl
-class-again RESPONSE = refl
-class-again UPLOAD = refl
-class-again DOWNLOAD = refl
-class-again GETINFO = refl
-class-again ABORT = refl
-class-again REPORT = refl
-class-again EVENT = refl
-class-again START = refl
-class-again ACTIVE = refl
-class-again IMMEDIATE = refl
-class-again reserved = refl
-class-again name = refl
-class-again TIME≥ = refl
-class-again number = refl
-class-again date = refl
-class-again unrealDate = refl
-class-again time = refl
-class-again unrealTime = refl
-class-again string = refl
-class-again operator = refl
-class-again semicolon = refl
+-- classes and points are told apart by their numbers, and there are 22 classes
+abbrev classOf : ℕ → Class
+classOf n = getD (JOB ∷ RESPONSE ∷ UPLOAD ∷ DOWNLOAD ∷ GETINFO ∷ ABORT ∷ REPORT ∷ EVENT ∷ START ∷ ACTIVE ∷ IMMEDIATE ∷ reserved ∷ name ∷ TIME≥ ∷ number ∷ date ∷ unrealDate ∷ time ∷ unrealTime ∷ string ∷ operator ∷ semicolon ∷ []) n reserved
+
+abbrev pointOf : ℕ → Point
+pointOf n = getD (first ∷ between ∷ statement ∷ jobName ∷ jobResponse ∷ jobFile ∷ moveFile ∷ moveSource ∷ moveStart ∷ startKind ∷ startTime ∷ startDate ∷ startOperator ∷ startValue ∷ infoFile ∷ abortKind ∷ abortName ∷ ending ∷ done ∷ dead ∷ []) n dead
+
+class-again : (c : Class) → (classOf (classNo c) ≡ c) × (classNo c < 22)
+class-again JOB = (refl, lit< tt)
+class-again RESPONSE = (refl, lit< tt)
+class-again UPLOAD = (refl, lit< tt)
+class-again DOWNLOAD = (refl, lit< tt)
+class-again GETINFO = (refl, lit< tt)
+class-again ABORT = (refl, lit< tt)
+class-again REPORT = (refl, lit< tt)
+class-again EVENT = (refl, lit< tt)
+class-again START = (refl, lit< tt)
+class-again ACTIVE = (refl, lit< tt)
+class-again IMMEDIATE = (refl, lit< tt)
+class-again reserved = (refl, lit< tt)
+class-again name = (refl, lit< tt)
+class-again TIME≥ = (refl, lit< tt)
+class-again number = (refl, lit< tt)
+class-again date = (refl, lit< tt)
+class-again unrealDate = (refl, lit< tt)
+class-again time = (refl, lit< tt)
+class-again unrealTime = (refl, lit< tt)
+class-again string = (refl, lit< tt)
+class-again operator = (refl, lit< tt)
+class-again semicolon = (refl, lit< tt)
 
 point-again : (q : Point) → pointOf (pointNo q) ≡ q
 point-again first = refl
@@ -68,7 +76,10 @@ point-again done = refl
 point-again dead = refl
 
 pub is-class : (c d : Class) → isClass c d ≡ true → c ≡ d
-is-class c d e = sym (class-again c) ∙ ap classOf {x = classNo c} {y = classNo d} (eqb-true _ _ e) ∙ class-again d
+is-class c d e = sym (class-again c .0) ∙ ap classOf {x = classNo c} {y = classNo d} (eqb-true _ _ e) ∙ class-again d .0
+
+pub class-below : (c : Class) → classNo c < 22
+class-below c = class-again c .1
 
 pub is-point : (p q : Point) → isPoint p q ≡ true → p ≡ q
 is-point p q e = sym (point-again p) ∙ ap pointOf {x = pointNo p} {y = pointNo q} (eqb-true _ _ e) ∙ point-again q

@@ -1,18 +1,18 @@
 -- The reader has not stopped exactly when some legal file goes on from the tokens read.
 use mathlib.Core.Path.{_≡_, refl, sym, _∙_, ap}
 use mathlib.Core.List.{List, [], _∷_, _++_, append-assoc}
-use mathlib.Core.Bool.{false, true≢false}
+use mathlib.Core.Bool.{false}
 use Prim.Native.Nat.{ℕ}
-use Rattle.grammar.specs.Grammar.{Class, Point, isPoint}
-use Rattle.grammar.specs.Grammar.Point.{first, between, statement, jobName, jobResponse, jobFile, moveFile, moveSource, moveStart, startKind, startTime, startDate, startOperator, startValue, infoFile, abortKind, abortName, ending, done, dead}
-use Rattle.grammar.specs.Productions.{Placed, Begins}
+use Rattle.grammar.specs.Grammar.{Class, Point, isPoint, walk}
+use Rattle.grammar.specs.Grammar.Point.{first, done, dead}
+use Rattle.grammar.specs.Productions.{Placed, classes, Begins}
 use Rattle.grammar.specs.Reading.{State, move, moves}
 use Rattle.grammar.specs.Reading.State.{on, wrong}
 use Rattle.grammar.specs.Rows.{MayStand}
-use Rattle.grammar.proofs.Ways.{finish}
+use Rattle.grammar.proofs.Ways.{finish, finishes}
 use Rattle.grammar.proofs.Moves.{Fine, fine, moves-append, moves-wrong, wrong≢on}
 use Rattle.grammar.proofs.Moves.Fine.{fresh, running}
-use Rattle.grammar.proofs.Files.{file-read, read-legal}
+use Rattle.grammar.proofs.Files.{walks, file-read, read-legal}
 
 abbrev pub start : State
 start = on done []
@@ -21,27 +21,12 @@ abbrev placed : List Class → List Placed
 placed [] = []
 placed (c ∷ cs) = record { class = c; place = 0 } ∷ placed cs
 
+its-classes : (k : List Class) → classes (placed k) ≡ k
+its-classes [] = refl
+its-classes (c ∷ k) = ap (λ (l : List Class). c ∷ l) (its-classes k)
+
 ends : (q : Point) (os : List ℕ) → isPoint q dead ≡ false → moves (on q os) (placed (finish q)) ≡ on done os
-ends first os e = refl
-ends between os e = refl
-ends statement os e = refl
-ends jobName os e = refl
-ends jobResponse os e = refl
-ends jobFile os e = refl
-ends moveFile os e = refl
-ends moveSource os e = refl
-ends moveStart os e = refl
-ends startKind os e = refl
-ends startTime os e = refl
-ends startDate os e = refl
-ends startOperator os e = refl
-ends startValue os e = refl
-ends infoFile os e = refl
-ends abortKind os e = refl
-ends abortName os e = refl
-ends ending os e = refl
-ends done os e = refl
-ends dead os e = absurd (true≢false e)
+ends q os e = walks (placed (finish q)) q os (ap (walk q) (its-classes (finish q)) ∙ finishes q e)
 
 -- from a state that is on, some tokens complete the file
 completes : (a : List Placed) (q : Point) (os : List ℕ) → Fine q os → moves start a ≡ on q os → Begins a

@@ -1,39 +1,11 @@
--- How many classes there are, and a way to end a statement from each point. Assumes nothing.
+-- A way to end a statement from each point. Assumes nothing.
 use mathlib.Core.Path.{_≡_, refl}
 use mathlib.Core.Bool.{false, true≢false}
 use mathlib.Core.List.{List, [], _∷_}
-use Prim.Native.Nat.{_<_}
-use lib.Dec.{lit<}
-use Rattle.grammar.specs.Grammar.{Class, Point, walk, isPoint, classNo}
-use Rattle.grammar.specs.Grammar.Class.{JOB, RESPONSE, UPLOAD, DOWNLOAD, GETINFO, ABORT, REPORT, EVENT, START, ACTIVE, IMMEDIATE, reserved, name, TIME≥, number, date, unrealDate, time, unrealTime, string, operator, semicolon}
+use Rattle.grammar.specs.Grammar.{Class, Point, walk, isPoint}
+use Rattle.grammar.specs.Grammar.Class.{JOB, RESPONSE, GETINFO, EVENT, ACTIVE, IMMEDIATE, name, number, time, string, operator, semicolon}
 use Rattle.grammar.specs.Grammar.Point.{first, between, statement, jobName, jobResponse, jobFile, moveFile, moveSource, moveStart, startKind, startTime, startDate, startOperator, startValue, infoFile, abortKind, abortName, ending, done, dead}
 
--- there are 22 classes
-pub class-below : (c : Class) → classNo c < 22
-class-below JOB = lit< tt
-class-below RESPONSE = lit< tt
-class-below UPLOAD = lit< tt
-class-below DOWNLOAD = lit< tt
-class-below GETINFO = lit< tt
-class-below ABORT = lit< tt
-class-below REPORT = lit< tt
-class-below EVENT = lit< tt
-class-below START = lit< tt
-class-below ACTIVE = lit< tt
-class-below IMMEDIATE = lit< tt
-class-below reserved = lit< tt
-class-below name = lit< tt
-class-below TIME≥ = lit< tt
-class-below number = lit< tt
-class-below date = lit< tt
-class-below unrealDate = lit< tt
-class-below time = lit< tt
-class-below unrealTime = lit< tt
-class-below string = lit< tt
-class-below operator = lit< tt
-class-below semicolon = lit< tt
-
--- a way to end a statement from each point
 abbrev pub finish : Point → List Class
 finish first = JOB ∷ name ∷ RESPONSE ∷ string ∷ semicolon ∷ []
 finish between = GETINFO ∷ string ∷ semicolon ∷ []

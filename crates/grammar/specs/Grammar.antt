@@ -4,7 +4,6 @@ use Prim.Native.Nat.{ℕ}
 use mathlib.Core.Bool.{Bool, cond}
 use mathlib.Core.List.{List, [], _∷_}
 use lib.Dec.{eqb}
-use lib.ListN.{getD}
 
 -- The classes of token. `reserved` is STOP, TIME or NEVER, which no production takes. `date` and `unrealDate` are numbers of eight bare
 -- digits, and `time` and `unrealTime` have a time's shape: the first of each is a real one.
@@ -106,12 +105,6 @@ pointNo abortName = 16
 pointNo ending = 17
 pointNo done = 18
 pointNo dead = 19
-
-abbrev pub classOf : ℕ → Class
-classOf n = getD (JOB ∷ RESPONSE ∷ UPLOAD ∷ DOWNLOAD ∷ GETINFO ∷ ABORT ∷ REPORT ∷ EVENT ∷ START ∷ ACTIVE ∷ IMMEDIATE ∷ reserved ∷ name ∷ TIME≥ ∷ number ∷ date ∷ unrealDate ∷ time ∷ unrealTime ∷ string ∷ operator ∷ semicolon ∷ []) n reserved
-
-abbrev pub pointOf : ℕ → Point
-pointOf n = getD (first ∷ between ∷ statement ∷ jobName ∷ jobResponse ∷ jobFile ∷ moveFile ∷ moveSource ∷ moveStart ∷ startKind ∷ startTime ∷ startDate ∷ startOperator ∷ startValue ∷ infoFile ∷ abortKind ∷ abortName ∷ ending ∷ done ∷ dead ∷ []) n dead
 
 abbrev pub isClass : Class → Class → Bool
 isClass c d = eqb (classNo c) (classNo d)

@@ -18,7 +18,7 @@ use Rattle.grammar.specs.Grammar.{classNo}
 use Rattle.grammar.specs.Grammar.Class.{JOB}
 use Rattle.grammar.specs.Productions.{Placed}
 use Rattle.grammar.specs.Reading.{Answer}
-use Rattle.grammar.proofs.Ways.{class-below}
+use Rattle.grammar.proofs.Points.{class-below}
 use Rattle.item.specs.Tokens.{Next, itemOf, nextItem}
 use Rattle.item.specs.Tokens.Next.{item, ended, none}
 use Rattle.item.specs.Items.{endNo, noneNo, numbered, itemAt}
@@ -36,7 +36,6 @@ use Rattle.job.specs.Statement.Tiled.{over, tile}
 use Rattle.job.specs.Loop.{stop, stepRead, stepInto, stepOf, onStep, jobLoop}
 use Rattle.job.specs.declared.Step.{Step}
 use Rattle.job.specs.declared.Step.the-variants.{Over, Stop, On}
-use Rattle.job.specs.declared.StatementAt.{StatementAt}
 
 -- a token is found again from its own place
 again : (s : List ℕ) (i : ℕ) (t : Placed) (b : ℕ) → nextItem s i ≡ item t b → nextItem s (t .place) ≡ nextItem s i

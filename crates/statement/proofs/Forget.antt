@@ -9,13 +9,12 @@ use lib.Dec.{eqb}
 use Rattle.counts.specs.Refusals.{noToken, unexpected, notReal}
 use Rattle.grammar.specs.Grammar.{Class, classNo, isClass, shape}
 use Rattle.grammar.specs.Grammar.Class.{JOB, RESPONSE, UPLOAD, DOWNLOAD, GETINFO, ABORT, REPORT, EVENT, START, ACTIVE, IMMEDIATE, reserved, name, TIME≥, number, date, unrealDate, time, unrealTime, string, operator, semicolon}
-use Rattle.grammar.proofs.Ways.{class-below}
+use Rattle.grammar.proofs.Points.{class-below}
 use Rattle.item.specs.Tokens.{Next}
 use Rattle.item.specs.Items.{endNo, noneNo}
 use Rattle.item.specs.declared.Item.{Item}
 use Rattle.item.proofs.Shows.{Shows}
 use Rattle.item.proofs.Shows.Shows.{a-token, the-end, no-token}
-use Rattle.statement.specs.declared.Transfer.{Transfer}
 use Rattle.statement.specs.declared.StatementRead.{StatementRead}
 use Rattle.statement.specs.declared.StatementRead.the-variants.{Is, Refused}
 use Rattle.statement.specs.Statement as values
