@@ -2,7 +2,7 @@
 -- A history has the newest event first, so `later ++ (e ∷ earlier)` is a history in which e happened, with what came after and before.
 -- Assumes nothing.
 use Prim.Native.Nat.{ℕ, _≤_}
-use mathlib.Core.Path.{_≡_, refl, _∙_, ap, sym}
+use mathlib.Core.Path.{_≡_, _∙_, sym}
 use mathlib.Core.Bool.{true, false, cond}
 use mathlib.Core.List.{List, [], _∷_, _++_}
 use lib.Dec.{leb}
@@ -10,11 +10,11 @@ use lib.ListN.{length}
 use borrow.Author.Tests.{le-leb}
 use Rattle.counts.specs.Limits.{sessions}
 use Rattle.counts.specs.Refusals.{tooLittleRoom, unsound}
-use Rattle.counts.specs.Result.{Result, refused, done}
+use Rattle.counts.specs.Result.{refused, done}
 use Rattle.field.specs.Part.{put}
 use Rattle.sessions.proofs.Claims as without-bytes
 use Rattle.sessions.specs.History.{Call, Event, placed, collected, accepted, collections}
-use Rattle.sessions.specs.Owed.{Yours}
+use Rattle.sessions.specs.Owed.{owed, Yours}
 use Rattle.sessions.specs.Table.{records}
 use Rattle.session_table.specs.Calls.{placing, collecting, collectedOut}
 use Rattle.table_sound.specs.Bytes.{soundBytes}
@@ -28,6 +28,11 @@ module _ (max : ℕ) (low : 1 ≤ max) (high : max ≤ sessions) (cs : List Call
 
   pub never-13 : (c : Call) → refusedWith unsound (stepBytes (bytesAfter max cs) c .0) ≡ false
   never-13 = never-refused-so max low high cs
+
+  -- What program p, who shows ticket t, is answered is what the history owes: nothing else that stands in the bytes has a say.
+  pub collect-answers-what-is-owed : (p t room : ℕ) → collecting (bytesAfter max cs) p t room ≡ owed (historyOf max cs) p t room
+  collect-answers-what-is-owed p t room =
+      rw (same-history max low high cs) (collect-same max low high cs p t room ∙ without-bytes.collect-answers-what-is-owed max low high cs p t room)
 
   module _ (later earlier : List Event) where
     -- Where a collection under ticket t gave bytes: exactly one earlier placing gave t, by the same program, each of its commands has

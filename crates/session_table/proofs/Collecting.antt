@@ -1,20 +1,20 @@
 -- Collecting: the ways through its tests, and what it leaves. Assumes nothing.
 use Prim.Native.Nat.{ℕ, _+_, _≤_, _<_}
 use mathlib.Core.Path.{_≡_, refl, _∙_, ap, sym}
-use mathlib.Core.Bool.{Bool, true, false, cond}
+use mathlib.Core.Bool.{true, false}
 use mathlib.Core.List.{List}
 use native.Mathlib.Omega.{arith}
 use lib.Dec.{leb}
 use lib.ListN.{length}
 use borrow.Author.Tests.{le-leb, lt-leb, leb-true}
-use Rattle.counts.specs.Limits.{commands, programs, sessions}
+use Rattle.counts.specs.Limits.{commands, programs}
 use Rattle.counts.specs.Refusals.{notTheOne, outOfRange, tooLittleRoom, unsound, refusal}
 use Rattle.counts.specs.Result.{done}
 use Rattle.counts.specs.declared.Refusal.{Refusal}
 use Rattle.field.specs.Part.{put, Wrote}
-use Rattle.sessions.proofs.Laws.{Search, hit, search-find, is-ready, refused≢done}
+use Rattle.sessions.proofs.Laws.{must-hit, is-ready, refused≢done}
 use Rattle.sessions.proofs.Loops.{found-at, found-none, find-at, all-real}
-use Rattle.sessions.specs.Find.{Found, none, at, orNone, find, all}
+use Rattle.sessions.specs.Find.{Found, at, orNone, find, all}
 use Rattle.sessions.specs.Table.{within, isReady, reply, collect, collectFrom}
 use Rattle.table_layout.specs.Layout.{number, maxAt, answeredAt, entryOf, headOf}
 use Rattle.table_layout.specs.declared.Head.{Head}
@@ -87,21 +87,16 @@ module _ (b : List ℕ) (p t room : ℕ) where
   collectable ok =
       let q = passed (soundBytes b) _ unsound 0 ok in
       let r = passed-both (within 1 p programs) (collectFrom (abs b) room (readyFound b p t)) outOfRange 0 (abs b) (q .1) in
-      go (readyFound b p t) refl (search-find _ _) (r .1) (q .0) (r .0)
-    where
-      go : (f : Found) → readyFound b p t ≡ f → Search (number b maxAt) (λ s. isReady p t (slotOf b s)) f → only (collectFrom (abs b) room f .0) ≡ done tt
-          → soundBytes b ≡ true → within 1 p programs ≡ true → Collectable
-      go none e w d x y = absurd (refused≢done d)
-      go (at s) e (hit l k m) d x y =
-          record {
-            sound = x;
-            range = y;
-            number-ready = s;
-            found = e;
-            below = l;
-            ready = k;
-            room-enough = leb-true _ _ (passed-both (leb (length (reply (slotOf b s))) room) _ tooLittleRoom 0 (abs b) d .0);
-          }
+      let f = must-hit (number b maxAt) (λ s. isReady p t (slotOf b s)) (λ f. only (collectFrom (abs b) room f .0) ≡ done tt) refused≢done (r .1) in
+      record {
+        sound = q .0;
+        range = r .0;
+        number-ready = f .number;
+        found = f .found;
+        below = f .below;
+        ready = f .passes;
+        room-enough = leb-true _ _ (passed-both (leb (length (reply (slotOf b (f .number)))) room) _ tooLittleRoom 0 (abs b) (f .so) .0);
+      }
 
   module _ (w : Collectable) (s : ℕ) (found : s ≡ readyIn b p t) where
     pub is-number : s ≡ w .number-ready

@@ -1,21 +1,21 @@
 -- Placing: the ways through its tests, and what it leaves. Assumes nothing.
 use Prim.Native.Nat.{ℕ, _+_, _≤_, _<_}
-use mathlib.Core.Path.{_≡_, refl, _∙_, ap, sym}
-use mathlib.Core.Bool.{Bool, true, false, cond, _&&_}
+use mathlib.Core.Path.{_≡_, _∙_, ap, sym}
+use mathlib.Core.Bool.{Bool, true, false, _&&_}
 use mathlib.Core.List.{List}
 use native.Mathlib.Omega.{arith}
 use lib.Dec.{ltb}
 use borrow.Author.Tests.{lt-ltb, le-ltb, ltb-true}
-use Rattle.counts.specs.Limits.{commands, programs, sessions, ticketMost}
+use Rattle.counts.specs.Limits.{commands, programs, ticketMost}
 use Rattle.counts.specs.Refusals.{allTaken, outOfRange, noTicketLeft, unsound, refusal}
 use Rattle.counts.specs.Result.{done}
-use Rattle.sessions.proofs.Laws.{Search, hit, search-find, refused≢done}
+use Rattle.sessions.proofs.Laws.{must-hit, refused≢done}
 use Rattle.sessions.proofs.Loops.{found-at, found-none}
-use Rattle.sessions.specs.Find.{Found, none, at, orNone, find}
+use Rattle.sessions.specs.Find.{Found, at, orNone, find}
 use Rattle.sessions.specs.Table.{within, isOpen, place, placeIn}
-use Rattle.table_layout.specs.Layout.{number, maxAt, lastAt, putNumber, putHead}
+use Rattle.table_layout.specs.Layout.{number, maxAt, lastAt}
 use Rattle.table_sound.specs.Bytes.{slotOf, abs, soundBytes}
-use Rattle.session_table.specs.Calls.{only, verdict, newHead, placing, placedAt, placedBytes}
+use Rattle.session_table.specs.Calls.{only, verdict, placing, placedAt, placedBytes}
 use Rattle.session_table.proofs.Verdicts.{passed, passed-both, is-done, is-refused, keeps-bytes}
 use Rattle.counts.specs.declared.Refusal.{Refusal}
 use Rattle.session_table.specs.Paper.{paperPlaced}
@@ -77,20 +77,15 @@ module _ (b : List ℕ) (p n : ℕ) where
   placeable ok =
       let q = passed (soundBytes b) _ unsound 0 ok in
       let r = passed-both ranges (placeIn (abs b) p n (openIn b)) outOfRange 0 (abs b) (q .1) in
-      go (openIn b) refl (search-find _ _) (r .1) (q .0) (r .0)
-    where
-      go : (f : Found) → openIn b ≡ f → Search (number b maxAt) (λ s. isOpen (slotOf b s)) f → only (placeIn (abs b) p n f .0) ≡ done tt
-          → soundBytes b ≡ true → ranges ≡ true → Placeable
-      go none e w d x y = absurd (refused≢done d)
-      go (at s) e (hit l t m) d x y =
-          record {
-            sound = x;
-            range = y;
-            number-free = s;
-            found = e;
-            below = l;
-            room = ltb-true (number b lastAt) ticketMost (passed-both (ltb (number b lastAt) ticketMost) _ noTicketLeft 0 (abs b) d .0);
-          }
+      let f = must-hit (number b maxAt) (λ s. isOpen (slotOf b s)) (λ f. only (placeIn (abs b) p n f .0) ≡ done tt) refused≢done (r .1) in
+      record {
+        sound = q .0;
+        range = r .0;
+        number-free = f .number;
+        found = f .found;
+        below = f .below;
+        room = ltb-true (number b lastAt) ticketMost (passed-both (ltb (number b lastAt) ticketMost) _ noTicketLeft 0 (abs b) (f .so) .0);
+      }
 
   module _ (w : Placeable) (s : ℕ) (found : s ≡ orNone (openIn b) (number b maxAt)) where
     pub place-below : s < number b maxAt

@@ -17,7 +17,8 @@ use Rattle.sessions.proofs.Parts.{Sound}
 use Rattle.counts.specs.Result.{refused, done}
 use Rattle.sessions.specs.Table.{records, place, collect}
 use Rattle.sessions.proofs.Agrees.{agrees}
-use Rattle.sessions.proofs.Answers.{collect-owed, collect-yours, there, not-again-number, given-new, given-once, collected-gone, closed-or-waits}
+use Rattle.sessions.proofs.Answers.{there, not-again-number, given-new, given-once, collected-gone, closed-or-waits}
+use Rattle.sessions.proofs.Owing.{collect-owed, collect-yours}
 use Rattle.sessions.proofs.Past.{gather-append, accepted-append, moment, was-collect, was-place}
 
 length-zero : {A : Type 0} (l : List A) → length l ≡ 0 → l ≡ []

@@ -1,6 +1,6 @@
 -- The laws of find, all, put and numbered, and what the tests of the calls say. Assumes nothing.
 use Prim.Native.Nat.{ℕ, zero, suc, _+_, _-_, _≤_, _<_}
-use mathlib.Core.Path.{_≡_, refl, _∙_, ap, sym}
+use mathlib.Core.Path.{_≡_, refl, ap, sym}
 use mathlib.Core.Bool.{Bool, true, false, cond, _&&_, _||_, not, false≢true}
 use mathlib.Core.Logic.{_⊎_, inl, inr, ⊎-elim}
 use mathlib.Core.List.{List, [], _∷_, _++_}
@@ -30,6 +30,21 @@ unfolding find
 search-find zero p = miss (λ j l. absurd (omega arith))
 search-find (suc n) p = more n p (find n p) (p n) (search-find n p) refl
 
+-- what was found, where to have found nothing cannot be
+pub record Hit (n : ℕ) (p : ℕ → Bool) (P : Found → Type 0) : Type 0 where
+  pub number : ℕ
+  pub found : find n p ≡ at number
+  pub below : number < n
+  pub passes : p number ≡ true
+  pub so : P (at number)
+
+pub must-hit : (n : ℕ) (p : ℕ → Bool) (P : Found → Type 0) → (P none → ⊥) → P (find n p) → Hit n p P
+must-hit n p P not-none h = go (find n p) refl (search-find n p) h
+  where
+    go : (f : Found) → find n p ≡ f → Search n p f → P f → Hit n p P
+    go none e w d = absurd (not-none d)
+    go (at i) e (hit l t m) d = record { number = i; found = e; below = l; passes = t; so = d }
+
 pub either : (a b : ℕ) → (a ≡ b) ⊎ (a ≡ b → ⊥)
 either a b =
     ⊎-elim (λ e. ⊎-elim (λ f. inl (omega arith)) (λ l. inr (λ z. omega arith)) (eq-zero-or-pos (b - a))) (λ l. inr (λ z. omega arith)) (eq-zero-or-pos (a - b))
@@ -42,10 +57,6 @@ module _ {A : Type 0} (f : ℕ → A) (s : ℕ) (x : A) where
   pub put-other : {i : ℕ} → (i ≡ s → ⊥) → put f s x i ≡ f i
   unfolding put
   put-other {i} n = rw (ne-eqb i s n)
-
-  -- what holds of the new one, or of the old one elsewhere
-  pub put-at : (P : A → Type 0) (i : ℕ) → (i ≡ s → P x) → ((i ≡ s → ⊥) → P (f i)) → P (put f s x i)
-  put-at P i h g = ⊎-elim (λ (e : i ≡ s). rw (ap (put f s x) e ∙ put-same) (h e)) (λ (n : i ≡ s → ⊥). rw (put-other n) (g n)) (either i s)
 
   -- whatever holds of the new one and of each other holds of all
   pub put-all : (P : ℕ → A → Type 0) → P s x → ((i : ℕ) → (i ≡ s → ⊥) → P i (f i)) → (i : ℕ) → P i (put f s x i)

@@ -6,6 +6,7 @@ pub mod Stays
 pub mod SoundKept
 pub mod Standing
 pub mod Agrees
+pub mod Owing
 pub mod Answers
 pub mod Past
 pub mod Claims

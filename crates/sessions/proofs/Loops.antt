@@ -1,7 +1,7 @@
 -- The laws that a loop cites: over a test of every number below n, over a search for the lowest, over the first n values. Assumes nothing.
 use Prim.Native.Nat.{ℕ, zero, suc, _+_, _≤_, _<_}
 use mathlib.Core.Path.{_≡_, refl, sym, _∙_, ap}
-use mathlib.Core.Bool.{Bool, true, false, cond, _&&_, and-false, and-true, and-assoc}
+use mathlib.Core.Bool.{Bool, true, false, _&&_, and-false, and-true, and-assoc}
 use mathlib.Core.Logic.{⊎-elim}
 use mathlib.Core.List.{List, [], _∷_, _++_}
 use native.Mathlib.Nat.{eq-or-lt-of-le}

@@ -1,5 +1,4 @@
 -- A refused call leaves the table as it was. Assumes nothing.
-use Prim.Native.Nat.{ℕ}
 use mathlib.Core.Path.{_≡_, refl}
 use mathlib.Core.Bool.{Bool, true, false, false≢true}
 use Rattle.counts.specs.Result.{Result, refused, done}
