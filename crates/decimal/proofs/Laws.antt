@@ -3,12 +3,11 @@ use mathlib.Core.Path.{_≡_, refl, sym, ap, ap₂, _∙_, subst}
 use mathlib.Core.Bool.{true}
 use mathlib.Core.List.{List, [], _∷_, _++_}
 use Prim.Native.Nat.{ℕ, zero, suc, _+_, _-_, _*_, _/_, _%_, _^_, _≤_, _<_}
-use native.Mathlib.Nat.{pow-suc, pow-succ', mul-assoc, add-mul, add-assoc, div-div-eq-div-mul, mod-eq-of-lt, mod-one, div-one, mul-add-div-right, mul-add-mod-self-right}
+use native.Mathlib.Nat.{pow-suc, pow-succ', mul-assoc, div-div-eq-div-mul, mod-eq-of-lt, mod-one, div-one, mul-add-div-right, mul-add-mod-self-right}
 use native.Mathlib.Omega.{arith}
 use lib.Arith.{mod-mul, digits-div, digits-lt}
 use lib.Dec.{leb}
-use lib.ListN.{length, length-append}
-use lib.Pow.{pow-add}
+use lib.ListN.{length}
 use borrow.Author.Tests.{leb-true}
 use Rattle.laws.proofs.Choose.{and-left, and-right}
 use Rattle.decimal.specs.Digits.{digits, value, isDigit, allDigits}
@@ -88,15 +87,3 @@ digits-value (d ∷ ds) h =
     ap₂ (λ (k : ℕ) (l : List ℕ). k ∷ l)
     (ap (λ (k : ℕ). 48 + k % 10) (digits-div (d - 48) (value-lt ds (and-right (isDigit d) (allDigits ds) h))) ∙ e)
     (digits-above (length ds) (d - 48) (value ds) ∙ digits-value ds (and-right (isDigit d) (allDigits ds) h))
-
--- ---- two runs of digits side by side, as the digits before and after a point
-
-pub value-append : (xs ys : List ℕ) → value (xs ++ ys) ≡ value xs * 10 ^ length ys + value ys
-unfolding value
-value-append [] ys = omega arith
-value-append (x ∷ xs) ys =
-    let a = x - 48 in
-    let p = 10 ^ length xs in
-    let q = 10 ^ length ys in
-    let e : 10 ^ length (xs ++ ys) ≡ p * q = ap (λ (k : ℕ). 10 ^ k) (length-append xs ys) ∙ pow-add 10 (length xs) (length ys) in
-    rw (e, value-append xs ys, add-mul (a * p) (value xs) q, mul-assoc a p q, add-assoc (a * (p * q)) (value xs * q) (value ys))

@@ -5,7 +5,7 @@ use mathlib.Core.Path.{_≡_, sym, _∙_, ap}
 use mathlib.Core.List.{List}
 use native.Mathlib.Omega.{arith}
 use lib.ListN.{length}
-use Rattle.counts.specs.declared.Refusal.{Refusal}
+use Rattle.counts.proofs.Results.{same-refusal}
 use Rattle.counts.specs.Result.{Result}
 use Rattle.counts.specs.Result.Result.{refused}
 use Rattle.grammar.specs.Reading.{Answer}
@@ -17,20 +17,17 @@ use Rattle.job.specs.declared.JobAnswer.the-variants.{Taken, Refused}
 use Rattle.job.specs.declared.StatementAnswer.{StatementAnswer}
 use Rattle.job.specs.declared.StatementAnswer.the-variants.{Read, Refused as NotRead}
 
-same-refusal : (r q : Refusal) → r .number ≡ q .number → r .place ≡ q .place → r ≡ q
-same-refusal r q a b = rw (a, b)
-
 pub one-job-answer : (a b : JobAnswer) → jobSays a ≡ jobSays b → a ≡ b
 one-job-answer (Taken n) (Taken m) e = ap Taken (cc)
 one-job-answer (Taken n) (Refused q) e = let z : _≡_ {A = ℕ} 0 1 = cc in absurd (omega arith)
 one-job-answer (Refused r) (Taken m) e = let z : _≡_ {A = ℕ} 0 1 = cc in absurd (omega arith)
-one-job-answer (Refused r) (Refused q) e = ap Refused (same-refusal r q (cc) (cc))
+one-job-answer (Refused r) (Refused q) e = ap Refused (same-refusal (cc) (cc))
 
 pub one-statement-answer : (a b : StatementAnswer) → statementSays a ≡ statementSays b → a ≡ b
 one-statement-answer (Read x) (Read y) e = ap Read (cc)
 one-statement-answer (Read x) (NotRead q) e = let z : _≡_ {A = ℕ} 0 1 = cc in absurd (omega arith)
 one-statement-answer (NotRead r) (Read y) e = let z : _≡_ {A = ℕ} 0 1 = cc in absurd (omega arith)
-one-statement-answer (NotRead r) (NotRead q) e = ap NotRead (same-refusal r q (cc) (cc))
+one-statement-answer (NotRead r) (NotRead q) e = ap NotRead (same-refusal (cc) (cc))
 
 -- two answers that meet one contract are equal, and a refused file leaves the table as it was
 pub job-determined : (v : Answer) (a b : JobAnswer) → jobSays a ≡ counted v → jobSays b ≡ counted v → a ≡ b

@@ -37,7 +37,7 @@ loop-less : tie.Need-loop-less Inv-loop μ-loop
 loop-less c = search needs
 
 loop-again : tie.Need-loop-again Inv-loop μ-loop
-loop-again c = (one-more _ _ _ _ (c .before .before .loop .inv .0) (omega arith) (omega arith) (omega arith) (omega arith), omega arith, rw length-set (c .before .before .loop .inv .2))
+loop-again c = (one-more _ _ _ _ (c .before .before .loop .inv .0) (omega arith) (omega arith), omega arith, rw length-set (c .before .before .loop .inv .2))
 
 same-length : tie.Need-same-length Inv-loop μ-loop
 same-length c = search needs
