@@ -10,7 +10,6 @@ use borrow.Author.Tests.{eq-eqb, ne-eqb, eqb-true, eqb-false, lt-ltb, le-ltb, lt
 use Rattle.counts.specs.Limits.{commands, programs, sessions, ticketMost}
 use Rattle.counts.specs.Refusals.{notReal, notARecord, tooLittleRoom, allTaken, notTheOne, outOfRange, noTicketLeft, unsound, nothingUnanswered}
 use Rattle.counts.specs.Result.{Result, refused, done}
-use Rattle.counts.specs.declared.Refusal.{Refusal}
 use Rattle.counts.proofs.Results.{refused-not-done, same-refusal}
 use Rattle.sessions.specs.Find.{Found, none, at, find}
 use Rattle.record.specs.Record.{isOutcome}
@@ -19,7 +18,7 @@ use Rattle.sessions.specs.Table.{State, within, isOpen, isWaiting, turn, lowest
 use Rattle.sessions.specs.declared.Answer.{Answer}
 use Rattle.table_layout.specs.Layout.{tableBytes}
 use Rattle.table_sound.specs.Bytes.{abs, soundBytes}
-use Rattle.session_table.specs.Calls.{ifSound, after, making, madeBytes, placing, placedAt, placedBytes, takingUp, takenAt, takenBytes, answering, answeredAs, answeredBytes, collecting, collectedBytes, collectedOut}
+use Rattle.session_table.specs.Calls.{after, making, madeBytes, placing, placedBytes, takingUp, takenBytes, answering, answeredBytes, collecting, collectedBytes, collectedOut}
 use Rattle.session_table.specs.Collect.{Collects}
 use Rattle.session_table.specs.Paper.{paperMade, paperPlaced, paperTakenUp, paperAnswered, paperCollected}
 use Rattle.session_table.specs.declared.Made.{Made}

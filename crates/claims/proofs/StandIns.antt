@@ -1,14 +1,14 @@
 -- The stand-ins that document 01 has us try ("How much a contract says"). A contract cites a definition, and a definition gives one answer for each
 -- file, or each table and each argument. So a stand-in is refuted by one file, or one table that calls reach, at which it must do otherwise.
 -- Assumes nothing.
-use Prim.Native.Nat.{ℕ, _+_}
+use Prim.Native.Nat.{ℕ}
 use mathlib.Core.Path.{_≡_, refl, sym, ap, _∙_}
 use mathlib.Core.List.{List, [], _∷_}
 use native.Mathlib.Omega.{arith}
 use lib.ListN.{length}
 use Rattle.calendar.specs.Calendar.{februaryLength, monthLength, realDate, realTime}
 use Rattle.counts.specs.Limits.{statements}
-use Rattle.counts.specs.Result.{Result, refused, done}
+use Rattle.counts.specs.Result.{refused, done}
 use Rattle.counts.proofs.Results.{refused-not-done}
 use Rattle.decimal.specs.Digits.{digits, widthFrom, plainWidth, plain}
 use Rattle.field.specs.Bytes.{ascii, same, hasAt}
@@ -21,7 +21,7 @@ use Rattle.job.specs.Job.{readJob}
 use Rattle.record.specs.Record.{isReal, momentBytes, recordBytes}
 use Rattle.record.specs.declared.Outcome.the-variants.{Processed, Error}
 use Rattle.sessions.specs.Find.{find, put}
-use Rattle.sessions.specs.Table.{State, fresh, isOpen, isWaiting, isReady, names, numbered, records, reply, placeIn, place, takeNext, takeHand, takeUp, answerHand, answer, collectFrom, collect}
+use Rattle.sessions.specs.Table.{State, fresh, isOpen, isWaiting, isReady, names, numbered, records, placeIn, place, takeNext, takeHand, takeUp, answerHand, answer, collectFrom, collect}
 use Rattle.sessions.specs.declared.Answer.{Answer}
 
 -- ---- "A reader that refuses everything, or gives one constant reading, breaks demand 2." "A made-up statement count breaks the grammar's reading".

@@ -11,7 +11,6 @@ use Rattle.counts.specs.Limits.{fileBytes, statements}
 use Rattle.counts.specs.Refusals.{fileTooLong, tooFewPlaces}
 use Rattle.counts.specs.Result.{Result}
 use Rattle.counts.specs.Result.Result.{refused, done}
-use Rattle.counts.specs.declared.Refusal.{Refusal}
 use Rattle.grammar.specs.Reading.{Answer}
 use Rattle.item.proofs.Lines.{line-tokens}
 use Rattle.job.specs.Job.{onRoom, readJob, counted, filled}

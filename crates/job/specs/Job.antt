@@ -8,7 +8,6 @@ use Rattle.counts.specs.Limits.{fileBytes}
 use Rattle.counts.specs.Refusals.{fileTooLong, tooFewPlaces}
 use Rattle.counts.specs.Result.{Result}
 use Rattle.counts.specs.Result.Result.{refused, done}
-use Rattle.counts.specs.declared.Refusal.{Refusal}
 use Rattle.grammar.specs.Reading.{Answer, read}
 use Rattle.item.specs.Tokens.{line}
 use Rattle.job.specs.declared.JobAnswer.{JobAnswer}

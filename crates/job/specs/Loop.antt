@@ -7,7 +7,6 @@ use lib.ListN.{length, take}
 use Rattle.counts.specs.Limits.{statements}
 use Rattle.counts.specs.Refusals.{noToken, unexpected, tooManyStatements, refusal}
 use Rattle.counts.specs.Result.Result.{refused, done}
-use Rattle.counts.specs.declared.Refusal.{Refusal}
 use Rattle.grammar.specs.Grammar.{classNo}
 use Rattle.grammar.specs.Grammar.Class.{JOB}
 use Rattle.grammar.specs.Reading.{Answer}

@@ -9,12 +9,10 @@ use Rattle.counts.specs.Limits.{fileBytes}
 use Rattle.counts.specs.Refusals.{fileTooLong, outOfRange}
 use Rattle.counts.specs.Result.{Result}
 use Rattle.counts.specs.Result.Result.{refused, done}
-use Rattle.counts.specs.declared.Refusal.{Refusal}
 use Rattle.token.specs.Token.{isTextAt, contentAt}
 use Rattle.item.specs.Tokens.{nextItem}
 use Rattle.item.specs.Tokens.Next.{ended}
 use Rattle.item.specs.Items.{itemAt}
-use Rattle.item.specs.declared.Item.{Item}
 use Rattle.statement.specs.Statement.{statementOf}
 use Rattle.statement.specs.declared.Statement.{Statement}
 use Rattle.statement.specs.declared.StatementRead.{StatementRead}

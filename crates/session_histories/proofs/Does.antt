@@ -1,40 +1,36 @@
 -- Each call on sound bytes answers and leaves what the table without bytes does, and keeps them sound. Assumes nothing.
-use Prim.Native.Nat.{ℕ, _+_, _-_, _≤_, _<_}
+use Prim.Native.Nat.{ℕ, _+_}
 use mathlib.Core.Path.{_≡_, refl, _∙_, ap, sym}
-use mathlib.Core.Bool.{Bool, true, false, cond, _&&_}
-use mathlib.Core.Logic.{_⊎_, inl, inr, ⊎-elim}
+use mathlib.Core.Bool.{Bool, true, false, cond}
+use mathlib.Core.Logic.{⊎-elim}
 use mathlib.Core.List.{List}
 use native.Mathlib.Nat.{eq-zero-or-pos}
 use native.Mathlib.Omega.{arith}
 use borrow.Author.Tests.{lt-ltb, le-leb}
-use lib.Dec.{eqb, leb, ltb}
+use lib.Dec.{eqb}
 use lib.ListN.{length}
-use Rattle.counts.specs.Limits.{commands, programs, sessions, ticketMost}
-use Rattle.counts.specs.Refusals.{notTheOne, outOfRange, tooLittleRoom, unsound}
+use Rattle.counts.specs.Limits.{commands, programs, ticketMost}
 use Rattle.counts.specs.Result.{Result, refused, done}
 use Rattle.sessions.proofs.Did.{did}
-use Rattle.sessions.proofs.Laws.{halves, in-range, refused≢done, Search, miss, hit, search-find}
-use Rattle.sessions.proofs.Loops.{find-at}
+use Rattle.sessions.proofs.Laws.{halves, in-range}
 use Rattle.sessions.proofs.Parts.{parts-sound}
 use Rattle.sessions.proofs.SoundKept.{sound-kept}
 use Rattle.sessions.proofs.Stays.{isRefusal, refused-stays}
-use Rattle.sessions.specs.Find.{Found, none, at, orNone, find}
+use Rattle.sessions.specs.Find.{orNone}
 use Rattle.sessions.specs.History.{Call, toPlace, toTakeUp, toAnswer, toCollect, placed, tookUp, answered, collected, step}
-use Rattle.sessions.specs.Sound.{sound}
-use Rattle.sessions.specs.Table.{within, isOpen, place, placeIn, isWaiting, turn, takeUp, takeHand, takeNext, names, answer, answerHand, isReady, reply, collect, collectFrom, afterPlace, afterTakeUp, afterAnswer, afterCollect}
+use Rattle.sessions.specs.Table.{within, place, placeIn, turn, takeUp, takeHand, takeNext, names, answer, answerHand, reply, collect, collectFrom, afterAnswer}
 use Rattle.sessions.specs.declared.Answer.{Answer}
 use Rattle.session_table.proofs.Answering.{Answerable, answerable, answer-hand, answer-leaves as answering-leaves}
 use Rattle.session_table.proofs.Collecting.{Collectable, collectable, collect-leaves as collecting-leaves}
 use Rattle.session_table.proofs.Hands.{hand-empty, hand-full}
 use Rattle.session_table.proofs.Placing.{openIn, Placeable, placeable, place-leaves as placing-leaves}
 use Rattle.session_table.proofs.Turns.{nextIn, next-found, next-waits, next-leaves, again-leaves}
-use Rattle.session_table.proofs.Verdicts.{passed, passed-both}
 use Rattle.session_table.specs.Calls.{only, after, placing, placedAt, placedBytes, takingUp, takenAt, takenBytes, answering, answeredAs, answeredBytes, collecting, collectedAt, collectedBytes, readyIn, inHand}
 use Rattle.table_layout.proofs.Numbers.{length-putNumber}
-use Rattle.table_layout.specs.Layout.{tableBytes, maxAt, lastAt, markAt, handAt, number, putNumber, putHead, putEntry}
-use Rattle.table_search.proofs.Sounds.{sound-size, sound-table, sound-limited, stands, waits, hand-waits}
-use Rattle.table_slot.specs.Slots.{putSlot, slotAt}
-use Rattle.table_sound.specs.Bytes.{handOf, slotOf, abs, soundBytes}
+use Rattle.table_layout.specs.Layout.{maxAt, lastAt, markAt, handAt, number, putNumber, putHead, putEntry}
+use Rattle.table_search.proofs.Sounds.{sound-size, sound-table, waits, hand-waits}
+use Rattle.table_slot.specs.Slots.{putSlot}
+use Rattle.table_sound.specs.Bytes.{slotOf, abs, soundBytes}
 use Rattle.session_histories.proofs.Leaves.{place-leaves, take-leaves, collect-leaves}
 use Rattle.session_histories.proofs.Stored.{answer-leaves}
 use Rattle.session_histories.specs.Runs.{stepBytes}

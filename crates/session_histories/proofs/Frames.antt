@@ -11,7 +11,7 @@ use Rattle.counts.specs.Limits.{commands, sessions}
 use Rattle.sessions.proofs.Loops.{first-same}
 use Rattle.sessions.specs.Find.{first}
 use Rattle.table_layout.proofs.Numbers.{number-same, number-other, length-putNumber}
-use Rattle.table_layout.specs.Layout.{slotNumbers, headAt, entryAt, answeredAt, number, putNumber, putHead, putEntry, entryOf, kindOf, codeOf}
+use Rattle.table_layout.specs.Layout.{slotNumbers, headAt, entryAt, answeredAt, number, putNumber, putHead, putEntry, entryOf}
 use Rattle.table_layout.specs.declared.Head.{Head}
 use Rattle.sessions.specs.declared.Answer.{Answer}
 use Rattle.table_search.proofs.Sounds.{stands}

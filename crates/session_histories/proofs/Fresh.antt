@@ -1,24 +1,22 @@
 -- The fresh table's bytes hold the fresh table without bytes. Assumes nothing.
-use Prim.Native.Nat.{ℕ, zero, suc, _+_, _-_, _*_, _≤_, _<_}
-use mathlib.Core.Path.{_≡_, refl, _∙_, ap, sym}
+use Prim.Native.Nat.{ℕ, zero, suc, _+_, _-_, _*_, _≤_}
+use mathlib.Core.Path.{_≡_, refl, _∙_}
 use mathlib.Core.Bool.{true}
 use mathlib.Core.Logic.{⊎-elim, inr}
 use mathlib.Core.List.{List}
 use native.Mathlib.Nat.{eq-zero-or-pos}
 use native.Mathlib.Omega.{arith}
-use borrow.Author.Tests.{eq-eqb}
 use lib.ListN.{length, getD, replicate, length-replicate, getD-replicate, List·getD-eq-default}
 use Rattle.counts.specs.Limits.{sessions}
 use Rattle.field.specs.Number.{getW}
-use Rattle.sessions.proofs.Parts.{Sound, parts-sound}
+use Rattle.sessions.proofs.Parts.{parts-sound}
 use Rattle.sessions.proofs.SoundKept.{fresh-sound}
-use Rattle.sessions.specs.Sound.{sound}
 use Rattle.sessions.specs.Table.{fresh}
 use Rattle.session_table.specs.Calls.{freshBytes}
 use Rattle.table_layout.proofs.Numbers.{length-putNumber}
 use Rattle.table_layout.specs.Layout.{tableBytes, headAt, number, putTable}
 use Rattle.table_sound.proofs.Slots.{slot-open}
-use Rattle.table_sound.specs.Bytes.{handOf, slotOf, abs, soundBytes}
+use Rattle.table_sound.specs.Bytes.{handOf, abs, soundBytes}
 use Rattle.session_histories.proofs.Frames.{four-read, four-others}
 use Rattle.session_histories.proofs.Leaves.{state-same}
 

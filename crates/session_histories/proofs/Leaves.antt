@@ -1,26 +1,23 @@
 -- Each call's writes, as what the table without bytes does. Assumes nothing.
-use Prim.Native.Nat.{ℕ, _+_, _-_, _*_, _≤_, _<_}
-use mathlib.Core.Path.{_≡_, refl, _∙_, ap, sym}
+use Prim.Native.Nat.{ℕ, _+_, _≤_, _<_}
+use mathlib.Core.Path.{_≡_, _∙_, ap, sym}
 use mathlib.Core.Bool.{true}
-use mathlib.Core.Logic.{_⊎_, inl, inr, ⊎-elim}
-use mathlib.Core.List.{List, [], _∷_, _++_}
+use mathlib.Core.Logic.{inl, inr, ⊎-elim}
+use mathlib.Core.List.{List}
 use native.Mathlib.Omega.{arith}
-use native.Mathlib.Numerals.{add-one}
-use borrow.Author.Tests.{ne-eqb, eq-eqb}
+use borrow.Author.Tests.{ne-eqb}
 use lib.ListN.{length}
 use Rattle.counts.specs.Limits.{commands, programs, sessions, ticketMost}
 use Rattle.sessions.proofs.Laws.{either, put-same, put-other}
-use Rattle.sessions.proofs.Loops.{first-same}
-use Rattle.sessions.specs.Find.{Found, none, at, put, first}
-use Rattle.sessions.specs.Table.{Slot, openSlot, State, newSlot, withAnswer, afterPlace, afterTakeUp, afterAnswer, afterCollect}
-use Rattle.sessions.specs.declared.Answer.{Answer}
-use Rattle.session_table.specs.Calls.{newHead, placedAt, answeredAs, collectedAt, inHand}
+use Rattle.sessions.specs.Find.{at, put, first}
+use Rattle.sessions.specs.Table.{Slot, openSlot, State, newSlot, afterPlace, afterTakeUp, afterCollect}
+use Rattle.session_table.specs.Calls.{newHead, placedAt, collectedAt}
 use Rattle.table_layout.proofs.Numbers.{number-same, number-other, length-putNumber}
-use Rattle.table_layout.specs.Layout.{slotNumbers, tableNumbers, tableBytes, headAt, entryAt, answeredAt, maxAt, lastAt, markAt, handAt, number, putNumber, putHead, putEntry, entryOf}
-use Rattle.table_search.proofs.Sounds.{sound-size, stands}
-use Rattle.table_sound.proofs.Slots.{slot-open, slot-held, answers-held}
-use Rattle.table_sound.specs.Bytes.{handOf, heldSlot, slotOf, abs, soundBytes}
-use Rattle.session_histories.proofs.Frames.{Outside, four-read, head-others, entry-others, slots-apart, slot-same}
+use Rattle.table_layout.specs.Layout.{slotNumbers, tableBytes, headAt, answeredAt, maxAt, lastAt, markAt, handAt, number, putNumber, putHead}
+use Rattle.table_search.proofs.Sounds.{sound-size}
+use Rattle.table_sound.proofs.Slots.{slot-open, slot-held}
+use Rattle.table_sound.specs.Bytes.{handOf, slotOf, abs, soundBytes}
+use Rattle.session_histories.proofs.Frames.{Outside, four-read, head-others, slots-apart, slot-same}
 
 pub state-same : {σ τ : State} → σ .max ≡ τ .max → σ .last ≡ τ .last → σ .mark ≡ τ .mark → σ .hand ≡ τ .hand → ((s : ℕ) → σ .slot s ≡ τ .slot s) → σ ≡ τ
 state-same e1 e2 e3 e4 e5 = λ k. record { max = e1 k; last = e2 k; mark = e3 k; hand = e4 k; slot = λ s. e5 s k }

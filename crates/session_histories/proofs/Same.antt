@@ -1,13 +1,13 @@
 -- The bytes after any calls are sound and hold what the table without bytes is then, and the answers are the same. Assumes nothing.
 use Prim.Native.Nat.{ℕ, _≤_}
 use mathlib.Core.Path.{_≡_, refl, _∙_, ap, sym}
-use mathlib.Core.Bool.{Bool, true, false, _&&_}
+use mathlib.Core.Bool.{true, false, _&&_}
 use mathlib.Core.List.{List, [], _∷_}
 use lib.Dec.{leb, ltb}
 use lib.ListN.{length}
 use Rattle.counts.specs.Limits.{commands, programs, sessions, ticketMost}
 use Rattle.counts.specs.Refusals.{unsound}
-use Rattle.counts.specs.Result.{Result, refused, done}
+use Rattle.counts.specs.Result.{Result}
 use Rattle.sessions.proofs.Laws.{if-cond}
 use Rattle.sessions.specs.Find.{Found, none, at, find}
 use Rattle.sessions.specs.History.{Call, toPlace, toTakeUp, toAnswer, toCollect, step, table, history}
@@ -16,7 +16,7 @@ use Rattle.record.specs.Record.{isOutcome}
 use Rattle.sessions.specs.Records.{isDated}
 use Rattle.sessions.specs.Table.{State, within, isOpen, place, placeIn, isWaiting, turn, takeUp, takeHand, takeNext, names, answer, answerHand, isReady, reply, collect, collectFrom}
 use Rattle.sessions.specs.declared.Answer.{Answer}
-use Rattle.session_table.specs.Calls.{placing, takingUp, answering, collecting, freshBytes}
+use Rattle.session_table.specs.Calls.{placing, collecting}
 use Rattle.table_sound.specs.Bytes.{abs, soundBytes}
 use Rattle.session_histories.specs.Runs.{stepBytes, bytesAfter, historyOf, isRefusedWith, refusedWith, Refuses}
 use Rattle.session_histories.proofs.Does.{does, placing-is, taking-is, answering-is, collecting-is}

@@ -1,8 +1,8 @@
 -- What answering writes, as what the table without bytes does: one slot's entry and what is in hand. Assumes nothing.
-use Prim.Native.Nat.{ℕ, _+_, _-_, _*_, _≤_, _<_}
+use Prim.Native.Nat.{ℕ, _+_, _≤_, _<_}
 use mathlib.Core.Path.{_≡_, refl, _∙_, ap, sym}
-use mathlib.Core.Bool.{Bool, true, _&&_}
-use mathlib.Core.Logic.{_⊎_, inl, inr, ⊎-elim}
+use mathlib.Core.Bool.{true}
+use mathlib.Core.Logic.{inl, inr, ⊎-elim}
 use mathlib.Core.List.{List, [], _∷_, _++_}
 use native.Mathlib.Omega.{arith}
 use native.Mathlib.Numerals.{add-one}
@@ -14,10 +14,10 @@ use Rattle.calendar.specs.Calendar.{realDate, realTime}
 use Rattle.counts.specs.Limits.{commands, sessions, classMost, codeMost}
 use Rattle.laws.proofs.Choose.{and-left, and-right}
 use Rattle.sessions.proofs.Loops.{first-same}
-use Rattle.sessions.specs.Find.{none, put, first}
+use Rattle.sessions.specs.Find.{first}
 use Rattle.record.specs.Record.{isReal, isOutcome}
 use Rattle.sessions.specs.Records.{isDated}
-use Rattle.sessions.specs.Table.{Slot, withAnswer, afterAnswer}
+use Rattle.sessions.specs.Table.{withAnswer, afterAnswer}
 use Rattle.sessions.specs.declared.Answer.{Answer}
 use Rattle.record.specs.declared.Outcome.{Outcome}
 use Rattle.record.specs.declared.Outcome.the-variants.{Processed, Error}
@@ -26,7 +26,7 @@ use Rattle.table_layout.specs.Layout.{slotNumbers, tableBytes, headAt, entryAt,
 use Rattle.table_search.proofs.Sounds.{sound-size, Waits}
 use Rattle.table_slot.specs.Slots.{withEntry, slotAt, putSlot}
 use Rattle.table_sound.proofs.Slots.{slot-held}
-use Rattle.table_sound.specs.Bytes.{handOf, heldSlot, slotOf, abs, soundBytes}
+use Rattle.table_sound.specs.Bytes.{handOf, slotOf, abs, soundBytes}
 use Rattle.session_histories.proofs.Frames.{Outside, four-read, entry-others, slots-apart, slot-same}
 use Rattle.session_histories.proofs.Leaves.{state-same, slots-put}
 

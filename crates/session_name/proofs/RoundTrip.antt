@@ -1,19 +1,18 @@
 -- Demand 2's last sentence for names: what is written reads as the same number and kind, and what reads is written again as the same bytes.
 -- Both are about the words that the contracts of `read_name` and `write_name` cite. Assumes nothing.
-use Prim.Native.Nat.{ℕ, _+_, _≤_, _<_}
+use Prim.Native.Nat.{ℕ, _≤_}
 use mathlib.Core.Path.{_≡_, refl, sym, ap, _∙_, subst}
-use mathlib.Core.Bool.{Bool, true, false, cond, _&&_, false≢true}
-use mathlib.Core.List.{List, [], _++_, append-assoc, append-nil}
-use mathlib.Core.Logic.{⊎-elim}
+use mathlib.Core.Bool.{Bool, true, false, cond, _&&_}
+use mathlib.Core.List.{List, [], _++_, append-nil}
 use native.Mathlib.Omega.{arith}
-use lib.Dec.{eqb, leb, ltb}
-use lib.ListN.{length, take, drop, length-append, drop-of-length-le}
-use borrow.Author.Tests.{eqb-true, ltb-true, eq-eqb, ne-eqb, lt-ltb, le-ltb}
+use lib.Dec.{eqb, ltb}
+use lib.ListN.{length, drop, drop-of-length-le}
+use borrow.Author.Tests.{eqb-true, eq-eqb}
 use Rattle.laws.proofs.Choose.{and-left, and-right, and-both}
 use Rattle.counts.proofs.Results.{refused-not-done, passed}
-use Rattle.counts.specs.Result.{Result, refused, done}
+use Rattle.counts.specs.Result.{Result, done}
 use Rattle.field.specs.Bytes.{ascii, same, hasAt}
-use Rattle.field.specs.Part.{part, put}
+use Rattle.field.specs.Part.{part}
 use Rattle.field.proofs.Parts.{part-is, rest-is, is-part}
 use Rattle.field.proofs.Same.{has-then, then-has}
 use Rattle.decimal.specs.Digits.{digits}

@@ -14,11 +14,9 @@ use Rattle.item.specs.declared.Item.{Item}
 use Rattle.statement.specs.declared.Part.{Part}
 use Rattle.statement.specs.declared.Source.{Source}
 use Rattle.statement.specs.declared.Source.the-variants.{Active, File, Name}
-use Rattle.statement.specs.declared.Day.{Day}
 use Rattle.statement.specs.declared.Day.the-variants.{Any, On}
 use Rattle.statement.specs.declared.Operand.{Operand}
 use Rattle.statement.specs.declared.Operand.the-variants.{Number, Text}
-use Rattle.statement.specs.declared.Condition.{Condition}
 use Rattle.statement.specs.declared.Start.{Start}
 use Rattle.statement.specs.declared.Start.the-variants.{Immediate, At, When}
 use Rattle.statement.specs.declared.Aborted.{Aborted}

@@ -1,7 +1,7 @@
 -- A number that was put is read back, and all others stay. Assumes nothing.
-use Prim.Native.Nat.{ℕ, _+_, _-_, _*_, _≤_, _<_, _^_}
+use Prim.Native.Nat.{ℕ, _+_, _-_, _*_, _≤_, _<_}
 use mathlib.Core.Path.{_≡_, _∙_}
-use mathlib.Core.Logic.{_⊎_, inl, inr, ⊎-elim}
+use mathlib.Core.Logic.{inl, inr, ⊎-elim}
 use mathlib.Core.List.{List}
 use native.Mathlib.Nat.{eq-zero-or-pos, mod-eq-of-lt}
 use native.Mathlib.Omega.{arith}

@@ -1,22 +1,21 @@
 -- A reply grows by one record at its end. Assumes nothing.
 use Prim.Native.Nat.{ℕ, zero, suc, _+_, _≤_, _<_}
 use mathlib.Core.Path.{_≡_, refl, _∙_, ap, sym}
-use mathlib.Core.Bool.{true, _&&_}
+use mathlib.Core.Bool.{true}
 use mathlib.Core.Logic.{⊎-elim}
 use mathlib.Core.List.{List, [], _∷_, _++_, append-assoc, append-nil}
 use native.Mathlib.Nat.{eq-or-lt-of-le, add-comm}
 use native.Mathlib.Numerals.{add-one}
 use native.Mathlib.Omega.{arith}
 use borrow.Author.Tests.{le-leb}
-use lib.Dec.{leb, eqb}
 use lib.ListN.{length, length-append}
-use Rattle.counts.specs.Limits.{commands, textBytes}
+use Rattle.counts.specs.Limits.{commands}
 use Rattle.decimal.specs.Digits.{plainWidth}
 use Rattle.field.proofs.Put.{put-nil, then, as-bytes}
 use Rattle.field.specs.Part.{Wrote}
 use Rattle.laws.proofs.Choose.{and-left, and-right}
 use Rattle.record.proofs.Lengths.{length-record, fixed-le}
-use Rattle.record.specs.Record.{Content, content, isOutcome, isText, inRange, isReal as isRealMoment, recordBytes, fixedLength}
+use Rattle.record.specs.Record.{content, isOutcome, isText, inRange, fixedLength}
 use Rattle.record.specs.Writing.{Fits}
 use Rattle.record.specs.declared.Outcome.{Outcome}
 use Rattle.decimal.proofs.PlainLaws.{plain-le}

@@ -2,7 +2,7 @@
 use Prim.Native.Nat.{ℕ, _+_}
 use mathlib.Core.List.{List}
 use Rattle.sessions.specs.declared.Answer.{Answer}
-use Rattle.table_layout.specs.Layout.{number, putNumber, answeredAt, headOf, entryOf, putEntry}
+use Rattle.table_layout.specs.Layout.{putNumber, answeredAt, headOf, entryOf, putEntry}
 use Rattle.table_slot.specs.declared.Slot.{Slot}
 
 abbrev pub withEntry : Slot → Answer → Slot

@@ -1,7 +1,7 @@
 -- What the tests of a slot are on its bytes. Assumes nothing.
 use Prim.Native.Nat.{ℕ, _+_, _-_, _≤_, _<_}
 use mathlib.Core.Path.{_≡_, refl, _∙_, ap, sym}
-use mathlib.Core.Bool.{Bool, true, false, cond, _&&_, _||_, not, and-false}
+use mathlib.Core.Bool.{Bool, true, false, cond, _&&_, not, and-false}
 use mathlib.Core.Logic.{⊎-elim}
 use mathlib.Core.List.{List}
 use native.Mathlib.Nat.{eq-zero-or-pos}
@@ -9,14 +9,13 @@ use native.Mathlib.Omega.{arith}
 use lib.Dec.{eqb, leb, ltb}
 use lib.ListN.{length}
 use borrow.Author.Needs.{needs}
-use borrow.Author.Tests.{lt-ltb, le-ltb, eq-eqb, ne-eqb, leb-true}
+use borrow.Author.Tests.{lt-ltb, le-ltb, eq-eqb, ne-eqb}
 use Rattle.counts.specs.Limits.{commands, programs, sessions, ticketMost}
-use Rattle.laws.proofs.Choose.{and-left, and-right}
 use Rattle.sessions.proofs.Loops.{length-first, all-real}
 use Rattle.sessions.proofs.Parts.{few-of-head}
-use Rattle.sessions.specs.Find.{none, at, first, all}
-use Rattle.sessions.specs.Sound.{sound, maxInRange, markBelow, inRange, headSound, differs, isNew, isReal, allReal, slotSound, handSound}
-use Rattle.sessions.specs.Table.{openSlot, within, isOpen, isWaiting}
+use Rattle.sessions.specs.Find.{at, all}
+use Rattle.sessions.specs.Sound.{sound, maxInRange, markBelow, inRange, headSound, differs, isNew, isReal, slotSound, handSound}
+use Rattle.sessions.specs.Table.{openSlot, isOpen, isWaiting}
 use Rattle.table_layout.specs.Layout.{tableBytes, number, headAt, answeredAt, entryOf, headOf, tableOf, handAt}
 use Rattle.table_layout.specs.declared.Head.{Head}
 use Rattle.table_layout.specs.declared.Table.{Table}

@@ -1,6 +1,6 @@
 use Rattle.table_search.proofs.Tests.{waiting-in-turn}
 use Prim.Native.Nat.{_-_, _≤_}
-use mathlib.Core.Path.{_≡_, ap, _∙_, sym}
+use mathlib.Core.Path.{_≡_, ap}
 use native.Mathlib.Omega.{arith}
 use borrow.Author.Needs.{needs}
 use Rattle.sessions.specs.Find.{none, find}
