@@ -23,6 +23,7 @@ use Rattle.session_name.specs.declared.NameRead.{NameRead}
 use Rattle.session_name.specs.declared.NameWritten.{NameWritten}
 use Rattle.session_name.proofs.Says.{read-says-all, write-says-all}
 use Rattle.session_name.proofs.RoundTrip.{name-reads, name-back}
+use Rattle.claims.proofs.Demand1.{Exactly, refused-stays}
 
 -- ---- the rows, one statement a call
 
@@ -41,37 +42,13 @@ pub data ReadNameRow (max : ℕ) (name : List ℕ) : Result (ℕ × Kind) → Ty
   name-read : (n : ℕ) (kind : Kind) → inRange max n ≡ true → name ≡ nameOf n kind → ReadNameRow max name (done (n, kind))
   no-name : ((n : ℕ) (kind : Kind) → inRange max n ≡ true → name ≡ nameOf n kind → ⊥) → ReadNameRow max name (refused outOfRange 0)
 
-abbrev pub WriteNameExactly : Type 0
-WriteNameExactly =
-    ((max n : ℕ) (out : List ℕ) → WriteNameRow max n (length out) (written max n out))
-    × ((max n : ℕ) (out : List ℕ) (v : Result ℕ) → WriteNameRow max n (length out) v → written max n out ≡ v)
-
-abbrev pub ReadNameExactly : Type 0
-ReadNameExactly =
-    ((max : ℕ) (name : List ℕ) → ReadNameRow max name (nameRead max name))
-    × ((max : ℕ) (name : List ℕ) (v : Result (ℕ × Kind)) → ReadNameRow max name v → nameRead max name ≡ v)
-
--- a refused call's memory at exit is its memory at entry
-abbrev pub RefusedWriteChangesNothing : Type 0
-RefusedWriteChangesNothing =
-    (max n : ℕ) (kind : Kind) (out : List ℕ) (number place : ℕ) → written max n out ≡ refused number place → writtenBytes max n kind out ≡ out
-
--- ---- what a call determines
-
-abbrev pub ReadNameDetermined : Type 0
-ReadNameDetermined = (max : ℕ) (name : List ℕ) (a b : NameRead) → ReadsName max name a → ReadsName max name b → a ≡ b
-
-abbrev pub WriteNameDetermined : Type 0
-WriteNameDetermined =
-    (max n : ℕ) (kind : Kind) (entry exit exit′ : List ℕ) (a b : NameWritten)
-    → WritesName max n kind entry exit a → WritesName max n kind entry exit′ b → (a ≡ b) × (exit ≡ exit′)
-
 -- ---- the proofs
 
-pub read-name-determined : ReadNameDetermined
+pub read-name-determined : (max : ℕ) (name : List ℕ) (a b : NameRead) → ReadsName max name a → ReadsName max name b → a ≡ b
 read-name-determined max name a b p q = read-says-all a b (p ∙ sym q)
 
-pub write-name-determined : WriteNameDetermined
+pub write-name-determined : (max n : ℕ) (kind : Kind) (entry exit exit′ : List ℕ) (a b : NameWritten)
+    → WritesName max n kind entry exit a → WritesName max n kind entry exit′ b → (a ≡ b) × (exit ≡ exit′)
 write-name-determined max n kind entry exit exit′ a b p q = (write-says-all a b (p .0 ∙ sym (q .0)), p .1 ∙ sym (q .1))
 
 write-rows : (max n : ℕ) (out : List ℕ) → WriteNameRow max n (length out) (written max n out)
@@ -90,17 +67,13 @@ write-row-is max n out v (not-in-range p) = rw p
 write-row-is max n out v (no-room p q) = rw (p, lt-leb 12 (length out) q)
 write-row-is max n out v (name-written p q) = rw (p, le-leb 12 (length out) q)
 
-pub write-name-exactly : WriteNameExactly
-write-name-exactly = (write-rows, write-row-is)
+pub write-name-exactly : (max n : ℕ) (out : List ℕ) → Exactly (written max n out) (WriteNameRow max n (length out))
+write-name-exactly max n out = (write-rows max n out, write-row-is max n out)
 
-pub refused-write-changes-nothing : RefusedWriteChangesNothing
+pub refused-write-changes-nothing : (max n : ℕ) (kind : Kind) (out : List ℕ) (number place : ℕ) → written max n out ≡ refused number place
+    → writtenBytes max n kind out ≡ out
 unfolding written writtenBytes
-refused-write-changes-nothing max n kind out number place h = go (eqb (writeRefusal max n (length out)) 0) refl h
-  where
-    go : (t : Bool) → eqb (writeRefusal max n (length out)) 0 ≡ t
-        → cond {A = Result ℕ} t (done 12) (refused (writeRefusal max n (length out)) 0) ≡ refused number place → writtenBytes max n kind out ≡ out
-    go true e h = absurd (refused-not-done (sym h))
-    go false e h = rw e
+refused-write-changes-nothing max n kind out number place = refused-stays (writeRefusal max n (length out)) 12 _ out number place
 
 -- whatever a name is, it is read or it gets 11
 abbrev ReadOr11 : Result (ℕ × Kind) → Type 0
@@ -139,5 +112,5 @@ read-row-is max name v (no-name none) =
     (λ e. e)
     (two-ways max name)
 
-pub read-name-exactly : ReadNameExactly
-read-name-exactly = (read-rows, read-row-is)
+pub read-name-exactly : (max : ℕ) (name : List ℕ) → Exactly (nameRead max name) (ReadNameRow max name)
+read-name-exactly max name = (read-rows max name, read-row-is max name)

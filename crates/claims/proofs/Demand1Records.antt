@@ -10,13 +10,13 @@ use lib.ListN.{length}
 use borrow.Author.Tests.{le-leb, lt-leb, leb-true, leb-false}
 use Rattle.counts.specs.Refusals.{notReal, notARecord, tooLittleRoom}
 use Rattle.counts.specs.Result.{Result, refused, done}
-use Rattle.counts.proofs.Results.{refused-not-done}
 use Rattle.record.specs.Record.{Content, inRange, isReal, recordBytes}
 use Rattle.record.specs.Reading.{recordRead, readSays}
 use Rattle.record.specs.Writing.{writeRefusal, written, writtenBytes, writeSays}
 use Rattle.record.specs.declared.RecordRead.{RecordRead}
 use Rattle.record.specs.declared.Written.{Written}
 use Rattle.record.proofs.Says.{read-says-all, write-says-all}
+use Rattle.claims.proofs.Demand1.{Exactly, refused-stays}
 
 -- ---- the rows: "The writer tests number, class, code and text (7), then date and time (5), then room (8)."
 
@@ -51,20 +51,13 @@ write-row-is limit c out v (five p q) = rw (p, q)
 write-row-is limit c out v (eight p q r) = rw (p, q, lt-leb _ _ r)
 write-row-is limit c out v (record-written p q r) = rw (p, q, le-leb _ _ r)
 
-pub write-record-exactly : ((limit : ℕ) (c : Content) (out : List ℕ) → WriteRow limit c (length out) (written limit c out))
-    × ((limit : ℕ) (c : Content) (out : List ℕ) (v : Result ℕ) → WriteRow limit c (length out) v → written limit c out ≡ v)
-write-record-exactly = (write-rows, write-row-is)
+pub write-record-exactly : (limit : ℕ) (c : Content) (out : List ℕ) → Exactly (written limit c out) (WriteRow limit c (length out))
+write-record-exactly limit c out = (write-rows limit c out, write-row-is limit c out)
 
 pub refused-record-changes-nothing : (limit : ℕ) (c : Content) (out : List ℕ) (number place : ℕ) → written limit c out ≡ refused number place
     → writtenBytes limit c out ≡ out
 unfolding written writtenBytes
-refused-record-changes-nothing limit c out number place h = go (eqb (writeRefusal limit c (length out)) 0) refl h
-  where
-    go : (t : Bool) → eqb (writeRefusal limit c (length out)) 0 ≡ t
-        → cond {A = Result ℕ} t (done (length (recordBytes c))) (refused (writeRefusal limit c (length out)) 0) ≡ refused number place
-        → writtenBytes limit c out ≡ out
-    go true e h = absurd (refused-not-done (sym h))
-    go false e h = rw e
+refused-record-changes-nothing limit c out number place = refused-stays (writeRefusal limit c (length out)) _ _ out number place
 
 pub read-record-determined : (limit : ℕ) (bytes : List ℕ) (a b : RecordRead) → readSays a ≡ recordRead limit bytes → readSays b ≡ recordRead limit bytes → a ≡ b
 read-record-determined limit bytes a b p q = read-says-all a b (p ∙ sym q)
