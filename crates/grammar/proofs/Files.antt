@@ -1,6 +1,6 @@
 -- The reader takes the legal files, with their offsets, and no others.
 use mathlib.Core.Path.{_≡_, refl, sym, _∙_, ap, subst₂}
-use mathlib.Core.Bool.{Bool, true, false, true≢false}
+use mathlib.Core.Bool.{true, false, true≢false}
 use mathlib.Core.List.{List, [], _∷_, _++_, append-assoc, append-nil}
 use Prim.Native.Nat.{ℕ, _≤_, _<_}
 use native.Mathlib.Omega.{arith}
@@ -15,27 +15,20 @@ use Rattle.grammar.specs.Productions.Others.{none, more}
 use Rattle.grammar.specs.Productions.File.{file}
 use Rattle.grammar.specs.Reading.{State, opening, move, moves}
 use Rattle.grammar.specs.Reading.State.{on, wrong}
-use Rattle.grammar.proofs.Points.{is-point, stays, dead≢done, walked-job, walked-other, job-walks, other-walks}
+use Rattle.grammar.proofs.Points.{stays, elsewhere, walked-job, walked-other, job-walks, other-walks}
 use Rattle.grammar.proofs.Moves.{Moved, moved, Fine, fine, moves-append, moves-wrong, wrong≢on}
 use Rattle.grammar.proofs.Moves.Moved.{goes, begins}
 use Rattle.grammar.proofs.Moves.Fine.{fresh, running}
 
--- a point from which a statement ends is none from which the same classes lead nowhere
-elsewhere : (q r : Point) (k : List Class) → walk r k ≡ dead → walk q k ≡ done → isPoint q r ≡ false
-elsewhere q r k d w = go (isPoint q r) refl
-  where
-    go : (b : Bool) → isPoint q r ≡ b → b ≡ false
-    go false e = refl
-    go true e = absurd (dead≢done (sym d ∙ ap (λ (p : Point). walk p k) (sym (is-point q r e)) ∙ w))
-
+-- a point that classes lead on from, to the end of a statement
 not-dead : (q : Point) (k : List Class) → walk q k ≡ done → isPoint q dead ≡ false
-not-dead q k w = elsewhere q dead k (stays k) w
+not-dead q k w = elsewhere q dead k (stays k) (ap (λ (p : Point). isPoint p dead) w)
 
 -- within a statement the reader goes the way of its classes
 pub walks : (a : List Placed) (q : Point) (os : List ℕ) → walk q (classes a) ≡ done → moves (on q os) a ≡ on done os
 walks [] q os w = ap (λ (p : Point). on p os) w
 walks (t ∷ a) q os w =
-    let d : isPoint q done ≡ false = elsewhere q done (t .class ∷ classes a) (stays (classes a)) w in
+    let d : isPoint q done ≡ false = elsewhere q done (t .class ∷ classes a) (stays (classes a)) (ap (λ (p : Point). isPoint p dead) w) in
     let l : isPoint (step q (t .class)) dead ≡ false = not-dead (step q (t .class)) (classes a) w in
     ap (λ (s : State). moves s a) (rw (d, l)) ∙ walks a (step q (t .class)) os w
 

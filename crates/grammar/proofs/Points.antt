@@ -2,7 +2,7 @@
 -- exactly when they are a production with its ;
 use mathlib.Core.Path.{_≡_, refl, sym, _∙_, ap, subst}
 use mathlib.Core.Logic.{_⊎_, inl, inr}
-use mathlib.Core.Bool.{Bool, true, false, cond}
+use mathlib.Core.Bool.{Bool, true, false, true≢false, cond}
 use mathlib.Core.List.{List, [], _∷_, _++_}
 use Prim.Native.Nat.{ℕ, _<_}
 use native.Mathlib.Omega.{arith}
@@ -173,6 +173,16 @@ stays (c ∷ k) = stays k
 
 pub dead≢done : dead ≡ done → ⊥
 dead≢done e = let z : _≡_ {A = ℕ} 0 1 = cc in omega arith
+
+-- a test that cannot hold
+pub refuted : (b : Bool) → (b ≡ true → ⊥) → b ≡ false
+refuted true h = absurd (h refl)
+refuted false h = refl
+
+-- a point from which k leads to a living point is none from which it leads nowhere
+pub elsewhere : (q r : Point) (k : List Class) → walk r k ≡ dead → isPoint (walk q k) dead ≡ false → isPoint q r ≡ false
+elsewhere q r k d l =
+    refuted (isPoint q r) (λ e. true≢false (sym (ap (λ (p : Point). isPoint p dead) (ap (λ (p : Point). walk p k) (is-point q r e) ∙ d)) ∙ l))
 
 tail-at : (q : Point) → q ≡ done → Tail q []
 tail-at q e = subst (λ (p : Point). Tail p []) (sym e) nothing

@@ -10,14 +10,14 @@ use lib.ListN.{length, length-append}
 use Rattle.counts.specs.Limits.{statements}
 use Rattle.counts.specs.Refusals.{noToken, unexpected, tooManyStatements}
 use Rattle.counts.specs.Result.Result.{refused}
-use Rattle.grammar.specs.Grammar.{Class, classNo, isClass, isPoint}
-use Rattle.grammar.specs.Grammar.Class.{JOB, RESPONSE, UPLOAD, DOWNLOAD, GETINFO, ABORT, REPORT, EVENT, START, ACTIVE, IMMEDIATE, reserved, name, TIME≥, number, date, unrealDate, time, unrealTime, string, operator, semicolon}
+use Rattle.grammar.specs.Grammar.{Class, classNo, isClass, isPoint, shape}
+use Rattle.grammar.specs.Grammar.Class.{JOB, date, unrealDate, time, unrealTime}
 use Rattle.grammar.specs.Grammar.Point.{done}
 use Rattle.grammar.specs.Productions.{Placed}
 use Rattle.grammar.specs.Reading.{State, Last, Answer, opening, move, moves, atEnd, close, read}
 use Rattle.grammar.specs.Reading.State.{on, wrong}
 use Rattle.grammar.proofs.Moves.{moves-wrong}
-use Rattle.grammar.proofs.Points.{class-below}
+use Rattle.grammar.proofs.Points.{is-class, class-below}
 use Rattle.item.specs.Tokens.{Next, at, nextItem, Tokens}
 use Rattle.item.specs.Tokens.Next.{item, ended, none}
 use Rattle.item.specs.Tokens.Tokens.{at-end, no-token, then}
@@ -54,32 +54,26 @@ forget-step : (r : StatementRead) → stepRead r ≡ stepPart (forget r)
 forget-step (Is x b) = refl
 forget-step (Refused r) = refl
 
+-- what is no JOB has not its shape
+not-job : (c : Class) → isClass c JOB ≡ false → isClass (shape c) JOB ≡ false
+not-job c e = go (isClass c unrealTime) (isClass c unrealDate)
+  where
+    go : (x y : Bool) → isClass (cond x time (cond y date c)) JOB ≡ false
+    go true y = refl
+    go false true = refl
+    go false false = e
+
 -- at the start only JOB may stand, and later any statement but JOB: by the class
 opened : (s : List ℕ) (c : Class) (p b : ℕ)
     → (stepPart (plain.onItem (plain.or JOB (plain.jobNameAt s) []) (at c p b)) ≡ cond (isClass c JOB) (anyOf s (at c p b)) (stopAt p))
     × (stepPart (plain.onItem (plain.others s) (at c p b)) ≡ cond (isClass c JOB) (stopAt p) (anyOf s (at c p b)))
-opened s JOB p b = (refl, refl)
-opened s RESPONSE p b = (refl, refl)
-opened s UPLOAD p b = (refl, refl)
-opened s DOWNLOAD p b = (refl, refl)
-opened s GETINFO p b = (refl, refl)
-opened s ABORT p b = (refl, refl)
-opened s REPORT p b = (refl, refl)
-opened s EVENT p b = (refl, refl)
-opened s START p b = (refl, refl)
-opened s ACTIVE p b = (refl, refl)
-opened s IMMEDIATE p b = (refl, refl)
-opened s reserved p b = (refl, refl)
-opened s name p b = (refl, refl)
-opened s TIME≥ p b = (refl, refl)
-opened s number p b = (refl, refl)
-opened s date p b = (refl, refl)
-opened s unrealDate p b = (refl, refl)
-opened s time p b = (refl, refl)
-opened s unrealTime p b = (refl, refl)
-opened s string p b = (refl, refl)
-opened s operator p b = (refl, refl)
-opened s semicolon p b = (refl, refl)
+opened s c p b = go (isClass c JOB) refl
+  where
+    go : (x : Bool) → isClass c JOB ≡ x
+        → (stepPart (plain.onItem (plain.or JOB (plain.jobNameAt s) []) (at c p b)) ≡ cond (isClass c JOB) (anyOf s (at c p b)) (stopAt p))
+        × (stepPart (plain.onItem (plain.others s) (at c p b)) ≡ cond (isClass c JOB) (stopAt p) (anyOf s (at c p b)))
+    go true e = rw (is-class c JOB e) (refl, refl)
+    go false e = rw (e, not-job c e) (refl, refl)
 
 -- what stands between statements, by the tests
 tested : (s : List ℕ) (k : ℕ) (t : Item) (a b f z : Bool) → eqb (t .class) endNo ≡ a → eqb (t .class) noneNo ≡ b → eqb k statements ≡ f → eqb k 0 ≡ z

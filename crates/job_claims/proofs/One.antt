@@ -11,7 +11,7 @@ use Rattle.grammar.specs.Productions.{Placed, classes}
 use Rattle.grammar.specs.Reading.{Last}
 use Rattle.grammar.specs.Reading.Last.{end, broken}
 use Rattle.grammar.specs.Rows.{real, Stands}
-use Rattle.grammar.proofs.Points.{is-point, stays, dead≢done, walked-any, any-walks}
+use Rattle.grammar.proofs.Points.{is-point, stays, refuted, elsewhere, walked-any, any-walks}
 use Rattle.grammar.proofs.Ways.{finish, finishes}
 use Rattle.item.specs.Tokens.{nextItem, Tokens}
 use Rattle.item.specs.Tokens.Next.{item, ended, none}
@@ -39,12 +39,8 @@ point-append a t = ap (walk statement) (classes-append a (t ∷ [])) ∙ walk-ap
 
 -- a statement begins with a exactly when a leads to a living point
 alive : (a : List Placed) → Opens a → isPoint (point a) dead ≡ false
-alive a o = go (isPoint (point a) dead) refl
-  where
-    go : (b : Bool) → isPoint (point a) dead ≡ b → b ≡ false
-    go false e = refl
-    go true e =
-        absurd (dead≢done (sym (stays (o .0)) ∙ ap (λ (q : Point). walk q (o .0)) (sym (is-point (point a) dead e)) ∙ sym (walk-append statement (classes a) (o .0)) ∙ any-walks (o .1)))
+alive a o =
+    elsewhere (point a) dead (o .0) (stays (o .0)) (ap (λ (q : Point). isPoint q dead) (sym (walk-append statement (classes a) (o .0)) ∙ any-walks (o .1)))
 
 opens : (a : List Placed) → isPoint (point a) dead ≡ false → Opens a
 opens a e = (finish (point a), walked-any (classes a ++ finish (point a)) (walk-append statement (classes a) (finish (point a)) ∙ finishes (point a) e))
@@ -57,26 +53,7 @@ not-whole : (a : List Placed) → isPoint (point a) done ≡ false → ¬ WholeO
 not-whole a e w = true≢false (sym (ap (λ (q : Point). isPoint q done) (any-walks w)) ∙ e)
 
 still-open : (a : List Placed) → ¬ WholeOne a → isPoint (point a) done ≡ false
-still-open a n = go (isPoint (point a) done) refl
-  where
-    go : (b : Bool) → isPoint (point a) done ≡ b → b ≡ false
-    go false e = refl
-    go true e = absurd (n (walked-any (classes a) (is-point (point a) done e)))
-
--- where a living point was reached, every point on the way was alive, and none was `done`
-not-dead : (q : Point) (k : List Class) → isPoint (walk q k) dead ≡ false → isPoint q dead ≡ false
-not-dead q k l = go (isPoint q dead) refl
-  where
-    go : (b : Bool) → isPoint q dead ≡ b → b ≡ false
-    go false e = refl
-    go true e = absurd (true≢false (sym (ap (λ (p : Point). isPoint p dead) (ap (λ (p : Point). walk p k) (is-point q dead e) ∙ stays k)) ∙ l))
-
-not-done : (q : Point) (c : Class) (k : List Class) → isPoint (walk q (c ∷ k)) dead ≡ false → isPoint q done ≡ false
-not-done q c k l = go (isPoint q done) refl
-  where
-    go : (b : Bool) → isPoint q done ≡ b → b ≡ false
-    go false e = refl
-    go true e = absurd (true≢false (sym (ap (λ (p : Point). isPoint p dead) (ap (λ (p : Point). walk p (c ∷ k)) (is-point q done e) ∙ stays k)) ∙ l))
+still-open a n = refuted (isPoint (point a) done) (λ e. n (walked-any (classes a) (is-point (point a) done e)))
 
 -- the verdict on one statement
 pub data Judged (s : List ℕ) (at : ℕ) (ts : List Placed) (z : Last) : Part → Type 0 where
@@ -102,8 +79,8 @@ module _ (s : List ℕ) where
   along : {i j : ℕ} {a : List Placed} → After s i a j → (q : Point) → isPoint (walk q (classes a)) dead ≡ false → partAt s q i ≡ partAt s (walk q (classes a)) j
   along here q l = refl
   along {i = i} (then {b = b} {t = t} {a = a} e r) q l =
-      let d : isPoint q done ≡ false = not-done q (t .class) (classes a) l in
-      let n : isPoint (step q (t .class)) dead ≡ false = not-dead (step q (t .class)) (classes a) l in
+      let d : isPoint q done ≡ false = elsewhere q done (t .class ∷ classes a) (stays (classes a)) l in
+      let n : isPoint (step q (t .class)) dead ≡ false = elsewhere (step q (t .class)) dead (classes a) (stays (classes a)) l in
       on-token s q d i b t e ∙ rw n (along r (step q (t .class)) l)
 
   -- the tokens of a file, cut in two
@@ -161,7 +138,7 @@ module _ (s : List ℕ) where
     five-is : (p : ℕ) → OneFive ts p → partAt s statement at ≡ stopped notReal p
     five-is p (a, t, h, may, bad) =
         let l : isPoint (step (point a) (shape (t .class))) dead ≡ false = ap (λ (q : Point). isPoint q dead) (sym (point-append a (real t))) ∙ alive (a ++ (real t ∷ [])) may in
-        at-token a t p h (not-dead (point a) (shape (t .class) ∷ []) l) (not-done (point a) (shape (t .class)) [] l) true false (dead-after a t bad) l 0 _ (λ b. ap (stopped notReal) (h .place))
+        at-token a t p h (elsewhere (point a) dead (shape (t .class) ∷ []) refl l) (elsewhere (point a) done (shape (t .class) ∷ []) refl l) true false (dead-after a t bad) l 0 _ (λ b. ap (stopped notReal) (h .place))
 
     pub says-one : (x : Part) → Judged s at ts z x → partAt s statement at ≡ x
     says-one x (read {e = e} o) = whole-is e o

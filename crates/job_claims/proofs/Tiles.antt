@@ -9,7 +9,8 @@ use lib.Dec.{eqb}
 use lib.ListN.{length}
 use Rattle.counts.specs.Limits.{fileBytes, statements}
 use Rattle.counts.specs.Refusals.{noToken, unexpected, tooManyStatements}
-use Rattle.counts.specs.Result.Result.{refused, done}
+use Rattle.counts.specs.Result.Result.{done}
+use Rattle.counts.proofs.Results.{refused-not-done}
 use Rattle.counts.specs.declared.Refusal.{Refusal}
 use Rattle.scan.specs.Run.{blankEnd}
 use Rattle.scan.proofs.Settled.{settled}
@@ -51,45 +52,52 @@ same-item s i t b e =
 stop≢on : {r : Refusal} {n : ℕ} → Stop r ≡ On n → ⊥
 stop≢on e = let z : _≡_ {A = ℕ} 0 1 = cc in omega arith
 
-over≢on : {n : ℕ} → Over ≡ On n → ⊥
-over≢on e = let z : _≡_ {A = ℕ} 0 1 = cc in omega arith
-
-refused≢done : {n p : ℕ} {os : List ℕ} → _≡_ {A = Answer} (refused n p) (done os) → ⊥
-refused≢done x = let z : _≡_ {A = ℕ} 0 1 = cc in omega arith
-
-stop≢over : {r : Refusal} → Stop r ≡ Over → ⊥
-stop≢over e = let z : _≡_ {A = ℕ} 0 1 = cc in omega arith
-
-read≢over : (r : StatementRead) → stepRead r ≡ Over → ⊥
-read≢over (Is x m) e = let z : _≡_ {A = ℕ} 0 1 = cc in omega arith
-read≢over (Refused r) e = stop≢over e
-
 -- a statement that the loop went over was read whole
 read-whole : (n : ℕ) (r : StatementRead) → stepRead r ≡ On n → (x : Statement) × r ≡ Is x n
 read-whole n (Is x m) e = let d : m ≡ n = cc in (x, ap (Is x) d)
 read-whole n (Refused r) e = absurd (stop≢on e)
 
 module _ (s : List ℕ) (short : length s ≤ fileBytes) where
-  went-into : (k : ℕ) (t : Item) (n : ℕ) → stepInto s k t ≡ On n → stepRead (statementOf 0 s t) ≡ On n
-  unfolding stepInto
-  went-into k t n e = go (eqb k 0) (eqb (t .class) (classNo JOB)) e
-    where
-      go : (a b : Bool) → cond a (cond b (stepRead (statementOf 0 s t)) (stop unexpected t)) (cond b (stop unexpected t) (stepRead (statementOf 0 s t))) ≡ On n → stepRead (statementOf 0 s t) ≡ On n
-      go true true x = x
-      go true false x = absurd (stop≢on x)
-      go false true x = absurd (stop≢on x)
-      go false false x = x
+  -- what a step can be: over at the end of the file only, a stop, or what the statement is read as
+  data Steps (t : Item) : Step → Type 0 where
+    is-over : t .class ≡ endNo → Steps t Over
+    stops : {r : Refusal} → Steps t (Stop r)
+    reads : Steps t (stepRead (statementOf 0 s t))
 
-  went-on : (k : ℕ) (t : Item) (n : ℕ) → stepOf s k t ≡ On n → stepRead (statementOf 0 s t) ≡ On n
-  unfolding stepOf
-  went-on k t n e = go (eqb (t .class) endNo) (eqb k 0) (eqb (t .class) noneNo) (eqb k statements) e
+  steps-into : (k : ℕ) (t : Item) → Steps t (stepInto s k t)
+  unfolding stepInto
+  steps-into k t = go (eqb k 0) (eqb (t .class) (classNo JOB))
     where
-      go : (a z b f : Bool) → cond a (cond z (stop unexpected t) Over) (cond b (stop noToken t) (cond f (stop tooManyStatements t) (stepInto s k t))) ≡ On n → stepRead (statementOf 0 s t) ≡ On n
-      go true true b f x = absurd (stop≢on x)
-      go true false b f x = absurd (over≢on x)
-      go false z true f x = absurd (stop≢on x)
-      go false z false true x = absurd (stop≢on x)
-      go false z false false x = went-into k t n x
+      go : (a b : Bool) → Steps t (cond a (cond b (stepRead (statementOf 0 s t)) (stop unexpected t)) (cond b (stop unexpected t) (stepRead (statementOf 0 s t))))
+      go true true = reads
+      go true false = stops
+      go false true = stops
+      go false false = reads
+
+  steps : (k : ℕ) (t : Item) → Steps t (stepOf s k t)
+  unfolding stepOf
+  steps k t = go (eqb (t .class) endNo) refl (eqb k 0) (eqb (t .class) noneNo) (eqb k statements)
+    where
+      go : (a : Bool) → eqb (t .class) endNo ≡ a → (z b f : Bool) → Steps t (cond a (cond z (stop unexpected t) Over) (cond b (stop noToken t) (cond f (stop tooManyStatements t) (stepInto s k t))))
+      go true e true b f = stops
+      go true e false b f = is-over (eqb-true (t .class) endNo e)
+      go false e z true f = stops
+      go false e z false true = stops
+      go false e z false false = steps-into k t
+
+  went-on : (t : Item) (n : ℕ) {y : Step} → Steps t y → y ≡ On n → stepRead (statementOf 0 s t) ≡ On n
+  went-on t n (is-over c) e = let z : _≡_ {A = ℕ} 0 1 = cc in absurd (omega arith)
+  went-on t n stops e = absurd (stop≢on e)
+  went-on t n reads e = e
+
+  read≢over : (r : StatementRead) → stepRead r ≡ Over → ⊥
+  read≢over (Is x m) e = let z : _≡_ {A = ℕ} 0 1 = cc in omega arith
+  read≢over (Refused r) e = let z : _≡_ {A = ℕ} 0 1 = cc in omega arith
+
+  over-end : (t : Item) {y : Step} → Steps t y → y ≡ Over → t .class ≡ endNo
+  over-end t (is-over c) e = c
+  over-end t stops e = let z : _≡_ {A = ℕ} 0 1 = cc in absurd (omega arith)
+  over-end t reads e = absurd (read≢over (statementOf 0 s t) e)
 
   -- the statement that begins with the token u, on its own from its place
   on-its-own : (i : ℕ) (u : Placed) (b n : ℕ) (x : Statement) → nextItem s i ≡ item u b → itemAt 0 s i .place ≡ u .place → statementOf 0 s (itemAt 0 s i) ≡ Is x n → readStatement s (u .place) ≡ done (placed x (u .place) n)
@@ -114,41 +122,20 @@ module _ (s : List ℕ) (short : length s ≤ fileBytes) where
   at-end k i p os all t (the-end c q) e f w = go (eqb k 0) (rw c at w)
     where
       go : (z : Bool) → onStep (cond z (stop unexpected t) Over) os (t .place) f ≡ done all → Took i os all
-      go true x = absurd (refused≢done x)
+      go true x = absurd (refused-not-done x)
       go false x = let a : all ≡ os = cc in record { begun = []; offsets = rw append-nil a; tiled = over e }
-
-  -- the file is over only at its end
-  into≢over : (k : ℕ) (t : Item) → stepInto s k t ≡ Over → ⊥
-  unfolding stepInto
-  into≢over k t e = go (eqb k 0) (eqb (t .class) (classNo JOB)) e
-    where
-      go : (a b : Bool) → cond a (cond b (stepRead (statementOf 0 s t)) (stop unexpected t)) (cond b (stop unexpected t) (stepRead (statementOf 0 s t))) ≡ Over → ⊥
-      go true true x = read≢over (statementOf 0 s t) x
-      go true false x = stop≢over x
-      go false true x = stop≢over x
-      go false false x = read≢over (statementOf 0 s t) x
-
-  over-end : (k : ℕ) (t : Item) → stepOf s k t ≡ Over → t .class ≡ endNo
-  unfolding stepOf
-  over-end k t e = go (eqb (t .class) endNo) refl (eqb (t .class) noneNo) (eqb k statements) e
-    where
-      go : (a : Bool) → eqb (t .class) endNo ≡ a → (b f : Bool) → cond a (cond (eqb k 0) (stop unexpected t) Over) (cond b (stop noToken t) (cond f (stop tooManyStatements t) (stepInto s k t))) ≡ Over → t .class ≡ endNo
-      go true i b f x = eqb-true (t .class) endNo i
-      go false i true f x = absurd (stop≢over x)
-      go false i false true x = absurd (stop≢over x)
-      go false i false false x = absurd (into≢over k t x)
 
   at-none : (k p : ℕ) (os all : List ℕ) (t : Item) → Shows t (none p) → (f : List ℕ → ℕ → Answer) → onStep (stepOf s k t) os (t .place) f ≡ done all → ⊥
   unfolding stepOf
-  at-none k p os all t (no-token c q) f w = refused≢done (rw c at w)
+  at-none k p os all t (no-token c q) f w = refused-not-done (rw c at w)
 
   -- a token, by the step it leads to
   module _ (left i : ℕ) (os all : List ℕ) (later : (b : ℕ) (rs : List ℕ) → jobLoop s left rs b ≡ done all → Took b rs all) (u : Placed) (b : ℕ) (e : nextItem s i ≡ item u b) where
     at-token : Shows (itemAt 0 s i) (item u b) → (y : Step) → stepOf s (length os) (itemAt 0 s i) ≡ y → onStep y os (itemAt 0 s i .place) (jobLoop s left) ≡ done all → Took i os all
-    at-token (a-token c p n) Over y w = let h : itemAt 0 s i .class ≡ endNo = over-end (length os) (itemAt 0 s i) y in absurd (omega (arith, class-below (u .class)))
-    at-token h (Stop r) y w = absurd (refused≢done w)
+    at-token (a-token c p n) Over y w = let h : itemAt 0 s i .class ≡ endNo = over-end (itemAt 0 s i) (steps (length os) (itemAt 0 s i)) y in absurd (omega (arith, class-below (u .class)))
+    at-token h (Stop r) y w = absurd (refused-not-done w)
     at-token (a-token c p n) (On d) y w =
-        let x : (x : Statement) × statementOf 0 s (itemAt 0 s i) ≡ Is x d = read-whole d (statementOf 0 s (itemAt 0 s i)) (went-on (length os) (itemAt 0 s i) d y) in
+        let x : (x : Statement) × statementOf 0 s (itemAt 0 s i) ≡ Is x d = read-whole d (statementOf 0 s (itemAt 0 s i)) (went-on (itemAt 0 s i) d (steps (length os) (itemAt 0 s i)) y) in
         let r : Took d (os ++ (u .place ∷ [])) all = later d (os ++ (u .place ∷ [])) (rw p at w) in
         record {
           begun = u .place ∷ r .begun;
@@ -158,7 +145,7 @@ module _ (s : List ℕ) (short : length s ≤ fileBytes) where
 
   took : (left i : ℕ) (os all : List ℕ) → jobLoop s left os i ≡ done all → Took i os all
   unfolding jobLoop
-  took zero i os all e = absurd (refused≢done e)
+  took zero i os all e = absurd (refused-not-done e)
   took (suc left) i os all e = go (λ b rs w. took left b rs all w) (nextItem s i) refl (shows s i)
     where
       go : ((b : ℕ) (rs : List ℕ) → jobLoop s left rs b ≡ done all → Took b rs all) → (x : Next) → nextItem s i ≡ x → Shows (itemAt 0 s i) x → Took i os all

@@ -80,6 +80,17 @@ pub entry-others : (b : List ℕ) (s c : ℕ) (a : Answer) (j : ℕ) → Outside
 unfolding putEntry
 entry-others b s c a j o = four-others b (entryAt s c) _ _ _ _ j o
 
+-- an entry whose four numbers are the same
+pub entry-same : (b d : List ℕ) (s c : ℕ) → ((j : ℕ) → entryAt s c ≤ j → j < entryAt s c + 4 → number d j ≡ number b j) → entryOf d s c ≡ entryOf b s c
+unfolding entryOf
+entry-same b d s c same =
+    rw (
+      same (entryAt s c) (omega arith) (omega arith),
+      same (entryAt s c + 1) (omega arith) (omega arith),
+      same (entryAt s c + 2) (omega arith) (omega arith),
+      same (entryAt s c + 3) (omega arith) (omega arith),
+    )
+
 -- two slots are apart
 pub slots-apart : (i s j : ℕ) → (i ≡ s → ⊥) → headAt i ≤ j → j < headAt i + slotNumbers → Outside j (headAt s) slotNumbers
 slots-apart i s j n l h =
@@ -90,18 +101,8 @@ abbrev pub Same : List ℕ → List ℕ → ℕ → Type 0
 Same b d s = (j : ℕ) → headAt s ≤ j → j < headAt s + slotNumbers → number d j ≡ number b j
 
 module _ (b : List ℕ) (e : soundBytes b ≡ true) (d : List ℕ) (s : ℕ) (same : Same b d s) where
-  entry-same : (i : ℕ) → i < commands → entryOf d s (i + 1) ≡ entryOf b s (i + 1)
-  unfolding entryOf
-  entry-same i k =
-      rw (
-        same (entryAt s (i + 1)) (omega arith) (omega arith),
-        same (entryAt s (i + 1) + 1) (omega arith) (omega arith),
-        same (entryAt s (i + 1) + 2) (omega arith) (omega arith),
-        same (entryAt s (i + 1) + 3) (omega arith) (omega arith),
-      )
-
   entries-same : (n : ℕ) → n ≤ commands → first n (λ i. entryOf d s (i + 1)) ≡ first n (λ i. entryOf b s (i + 1))
-  entries-same n l = first-same n _ _ (λ i k. entry-same i (omega arith))
+  entries-same n l = first-same n _ _ (λ i k. entry-same b d s (i + 1) (λ j low high. same j (omega arith) (omega arith)))
 
   -- and so is what the slot holds
   pub slot-same : slotOf d s ≡ slotOf b s

@@ -27,7 +27,7 @@ use Rattle.table_search.proofs.Sounds.{sound-size, Waits}
 use Rattle.table_slot.specs.Slots.{withEntry, slotAt, putSlot}
 use Rattle.table_sound.proofs.Slots.{slot-held}
 use Rattle.table_sound.specs.Bytes.{handOf, slotOf, abs, soundBytes}
-use Rattle.session_histories.proofs.Frames.{Outside, four-read, entry-others, slots-apart, slot-same}
+use Rattle.session_histories.proofs.Frames.{Outside, four-read, entry-others, entry-same, slots-apart, slot-same}
 use Rattle.session_histories.proofs.Leaves.{state-same, slots-put}
 
 -- an outcome in range is read back
@@ -106,15 +106,7 @@ module _ (b : List ℕ) (e : soundBytes b ≡ true) (s : ℕ) (w : Waits b e s) 
       rw (e0, e1, e2, e3, outcome-back (a .outcome))
 
   entry-before : (i : ℕ) → i < n → entryOf d s (i + 1) ≡ entryOf b s (i + 1)
-  unfolding entryOf
-  entry-before i l =
-      let at : (j : ℕ) → entryAt s (i + 1) ≤ j → j < entryAt s (n + 1) → number d j ≡ number b j = λ j k h. other j (inl h) (λ z. omega arith) (λ z. omega arith) in
-      rw (
-        at (entryAt s (i + 1)) (omega arith) (omega arith),
-        at (entryAt s (i + 1) + 1) (omega arith) (omega arith),
-        at (entryAt s (i + 1) + 2) (omega arith) (omega arith),
-        at (entryAt s (i + 1) + 3) (omega arith) (omega arith),
-      )
+  entry-before i l = entry-same b d s (i + 1) (λ j k h. other j (inl (omega arith)) (λ z. omega arith) (λ z. omega arith))
 
   answers-are : first (n + 1) (λ i. entryOf d s (i + 1)) ≡ first n (λ i. entryOf b s (i + 1)) ++ (a ∷ [])
   unfolding first

@@ -8,8 +8,8 @@ use borrow.Author.Tests.{ne-eqb}
 use lib.Dec.{eqb}
 use Rattle.counts.specs.Refusals.{noToken, unexpected, notReal}
 use Rattle.grammar.specs.Grammar.{Class, classNo, isClass, shape}
-use Rattle.grammar.specs.Grammar.Class.{JOB, RESPONSE, UPLOAD, DOWNLOAD, GETINFO, ABORT, REPORT, EVENT, START, ACTIVE, IMMEDIATE, reserved, name, TIME≥, number, date, unrealDate, time, unrealTime, string, operator, semicolon}
-use Rattle.grammar.proofs.Points.{class-below}
+use Rattle.grammar.specs.Grammar.Class.{date, unrealDate, time, unrealTime}
+use Rattle.grammar.proofs.Points.{is-class, class-below}
 use Rattle.item.specs.Tokens.{Next}
 use Rattle.item.specs.Items.{endNo, noneNo}
 use Rattle.item.specs.declared.Item.{Item}
@@ -85,28 +85,12 @@ at-date x true p = rw (and-false x)
 at-date x false p = rw (and-false x)
 
 refused-so : (c : Class) (p : ℕ) (cs : List plain.Branch) → plain.has c cs ≡ false → refusedOf c p (plain.has time cs) (plain.has date cs) ≡ cond (plain.has (shape c) cs) (stopped notReal p) (stopped unexpected p)
-refused-so JOB p cs h = neither (plain.has time cs) (plain.has date cs) p ∙ rw h
-refused-so RESPONSE p cs h = neither (plain.has time cs) (plain.has date cs) p ∙ rw h
-refused-so UPLOAD p cs h = neither (plain.has time cs) (plain.has date cs) p ∙ rw h
-refused-so DOWNLOAD p cs h = neither (plain.has time cs) (plain.has date cs) p ∙ rw h
-refused-so GETINFO p cs h = neither (plain.has time cs) (plain.has date cs) p ∙ rw h
-refused-so ABORT p cs h = neither (plain.has time cs) (plain.has date cs) p ∙ rw h
-refused-so REPORT p cs h = neither (plain.has time cs) (plain.has date cs) p ∙ rw h
-refused-so EVENT p cs h = neither (plain.has time cs) (plain.has date cs) p ∙ rw h
-refused-so START p cs h = neither (plain.has time cs) (plain.has date cs) p ∙ rw h
-refused-so ACTIVE p cs h = neither (plain.has time cs) (plain.has date cs) p ∙ rw h
-refused-so IMMEDIATE p cs h = neither (plain.has time cs) (plain.has date cs) p ∙ rw h
-refused-so reserved p cs h = neither (plain.has time cs) (plain.has date cs) p ∙ rw h
-refused-so name p cs h = neither (plain.has time cs) (plain.has date cs) p ∙ rw h
-refused-so TIME≥ p cs h = neither (plain.has time cs) (plain.has date cs) p ∙ rw h
-refused-so number p cs h = neither (plain.has time cs) (plain.has date cs) p ∙ rw h
-refused-so date p cs h = neither (plain.has time cs) (plain.has date cs) p ∙ rw h
-refused-so unrealDate p cs h = at-date (plain.has time cs) (plain.has date cs) p
-refused-so time p cs h = neither (plain.has time cs) (plain.has date cs) p ∙ rw h
-refused-so unrealTime p cs h = at-time (plain.has time cs) (plain.has date cs) p
-refused-so string p cs h = neither (plain.has time cs) (plain.has date cs) p ∙ rw h
-refused-so operator p cs h = neither (plain.has time cs) (plain.has date cs) p ∙ rw h
-refused-so semicolon p cs h = neither (plain.has time cs) (plain.has date cs) p ∙ rw h
+refused-so c p cs h = go (isClass c unrealTime) (isClass c unrealDate) refl refl
+  where
+    go : (x y : Bool) → isClass c unrealTime ≡ x → isClass c unrealDate ≡ y → refusedOf c p (plain.has time cs) (plain.has date cs) ≡ cond (plain.has (shape c) cs) (stopped notReal p) (stopped unexpected p)
+    go true y e f = rw (is-class c unrealTime e) (at-time (plain.has time cs) (plain.has date cs) p)
+    go false true e f = rw (is-class c unrealDate f) (at-date (plain.has time cs) (plain.has date cs) p)
+    go false false e f = rw (e, f, h, ne-eqb (classNo c) noneNo (λ z. omega (arith, class-below c))) (neither (plain.has time cs) (plain.has date cs) p)
 
 forget-cond : (b : Bool) (x y : StatementRead) → forget (cond b x y) ≡ cond b (forget x) (forget y)
 forget-cond true x y = refl
