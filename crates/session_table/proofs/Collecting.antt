@@ -12,7 +12,7 @@ use Rattle.counts.specs.Refusals.{notTheOne, outOfRange, tooLittleRoom, unsound
 use Rattle.counts.specs.Result.{done}
 use Rattle.counts.specs.declared.Refusal.{Refusal}
 use Rattle.field.specs.Part.{put, Wrote}
-use Rattle.sessions.proofs.Laws.{must-hit, is-ready, refused≢done}
+use Rattle.sessions.proofs.Laws.{must-find, is-ready, refused≢done}
 use Rattle.sessions.proofs.Loops.{found-at, found-none, find-at, all-real}
 use Rattle.sessions.specs.Find.{Found, at, orNone, find, all}
 use Rattle.sessions.specs.Table.{within, isReady, reply, collect, collectFrom}
@@ -87,7 +87,7 @@ module _ (b : List ℕ) (p t room : ℕ) where
   collectable ok =
       let q = passed (soundBytes b) _ unsound 0 ok in
       let r = passed-both (within 1 p programs) (collectFrom (abs b) room (readyFound b p t)) outOfRange 0 (abs b) (q .1) in
-      let f = must-hit (number b maxAt) (λ s. isReady p t (slotOf b s)) (λ f. only (collectFrom (abs b) room f .0) ≡ done tt) refused≢done (r .1) in
+      let f = must-find (number b maxAt) (λ s. isReady p t (slotOf b s)) (λ f. only (collectFrom (abs b) room f .0) ≡ done tt) refused≢done (r .1) in
       record {
         sound = q .0;
         range = r .0;

@@ -9,7 +9,7 @@ use borrow.Author.Tests.{lt-ltb, le-ltb, ltb-true}
 use Rattle.counts.specs.Limits.{commands, programs, ticketMost}
 use Rattle.counts.specs.Refusals.{allTaken, outOfRange, noTicketLeft, unsound, refusal}
 use Rattle.counts.specs.Result.{done}
-use Rattle.sessions.proofs.Laws.{must-hit, refused≢done}
+use Rattle.sessions.proofs.Laws.{must-find, refused≢done}
 use Rattle.sessions.proofs.Loops.{found-at, found-none}
 use Rattle.sessions.specs.Find.{Found, at, orNone, find}
 use Rattle.sessions.specs.Table.{within, isOpen, place, placeIn}
@@ -77,7 +77,7 @@ module _ (b : List ℕ) (p n : ℕ) where
   placeable ok =
       let q = passed (soundBytes b) _ unsound 0 ok in
       let r = passed-both ranges (placeIn (abs b) p n (openIn b)) outOfRange 0 (abs b) (q .1) in
-      let f = must-hit (number b maxAt) (λ s. isOpen (slotOf b s)) (λ f. only (placeIn (abs b) p n f .0) ≡ done tt) refused≢done (r .1) in
+      let f = must-find (number b maxAt) (λ s. isOpen (slotOf b s)) (λ f. only (placeIn (abs b) p n f .0) ≡ done tt) refused≢done (r .1) in
       record {
         sound = q .0;
         range = r .0;

@@ -31,17 +31,17 @@ search-find zero p = miss (λ j l. absurd (omega arith))
 search-find (suc n) p = more n p (find n p) (p n) (search-find n p) refl
 
 -- what was found, where to have found nothing cannot be
-pub record Hit (n : ℕ) (p : ℕ → Bool) (P : Found → Type 0) : Type 0 where
+pub record Finds (n : ℕ) (p : ℕ → Bool) (P : Found → Type 0) : Type 0 where
   pub number : ℕ
   pub found : find n p ≡ at number
   pub below : number < n
   pub passes : p number ≡ true
   pub so : P (at number)
 
-pub must-hit : (n : ℕ) (p : ℕ → Bool) (P : Found → Type 0) → (P none → ⊥) → P (find n p) → Hit n p P
-must-hit n p P not-none h = go (find n p) refl (search-find n p) h
+pub must-find : (n : ℕ) (p : ℕ → Bool) (P : Found → Type 0) → (P none → ⊥) → P (find n p) → Finds n p P
+must-find n p P not-none h = go (find n p) refl (search-find n p) h
   where
-    go : (f : Found) → find n p ≡ f → Search n p f → P f → Hit n p P
+    go : (f : Found) → find n p ≡ f → Search n p f → P f → Finds n p P
     go none e w d = absurd (not-none d)
     go (at i) e (hit l t m) d = record { number = i; found = e; below = l; passes = t; so = d }
 
