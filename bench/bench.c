@@ -119,7 +119,7 @@ static size_t row_of(uint32_t s, uint32_t c) { return 1 + 65 * (size_t)s + c; }
 
 static void session(uint32_t s, uint32_t p, uint32_t count, uint32_t answered) {
     put(row_of(s, 0), p, count, answered, s + 1);
-    for (uint32_t c = 1; c <= answered; c++) put(row_of(s, c), c % 4 ? 0 : 7, c % 4 ? 0 : 120045, 20240430, 60000 + c % 60);
+    for (uint32_t c = 1; c <= answered; c++) put(row_of(s, c), c % 4 ? 0 : 7, c % 4 ? 0 : 120045, 20240401 + c % 30, 60000 + c % 60);
 }
 
 static void keep(uint32_t s) {

@@ -12,13 +12,17 @@ unfoldable pub monthLength : ℕ → ℕ → ℕ
 monthLength year month =
     cond (eqb month 2) (februaryLength year) (cond (eqb month 4 || eqb month 6 || eqb month 9 || eqb month 11) 30 31)
 
+-- "day from 01 to the month's length"
+abbrev pub isDay : ℕ → ℕ → ℕ → Bool
+isDay year month day = leb 1 day && leb day (monthLength year month)
+
 -- "yyyymmdd, year 0000 to 9999, month 01 to 12, day from 01 to the month's length"
 unfoldable pub realDate : ℕ → Bool
 realDate n =
     let year = n / 10000 in
     let month = n / 100 % 100 in
     let day = n % 100 in
-    leb year 9999 && (leb 1 month && leb month 12) && (leb 1 day && leb day (monthLength year month))
+    leb year 9999 && (leb 1 month && leb month 12) && isDay year month day
 
 -- "Times run from 00:00:00 to 23:59:59."
 unfoldable pub realTime : ℕ → Bool

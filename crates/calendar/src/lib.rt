@@ -1,6 +1,6 @@
 // Whether a date yyyymmdd and a time hhmmss, given as whole numbers, are real ones.
 ghost use mathlib.Core.Path.{_≡_};
-ghost use Rattle.calendar.specs.Calendar.{februaryLength, monthLength, realDate, realTime};
+ghost use Rattle.calendar.specs.Calendar.{februaryLength, monthLength, isDay, realDate, realTime};
 
 // February has a function of its own: it is what a calendar with leap years changes.
 fn february_length(_year: u32) -> u32
@@ -22,15 +22,28 @@ fn month_length(year: u32, month: u32) -> u32
     }
 }
 
+// Day from 01 to the month's length. Only a day after the 28th asks how long the month is: a table with thousands of answers tests as many dates.
+fn is_day(year: u32, month: u32, day: u32) -> bool
+    ensures { λ r. ⌜ r ≡ isDay year month day ⌝ }
+{
+    if day <= 28 {
+        return 1 <= day;
+    }
+    day <= month_length(year, month)
+}
+
 pub fn is_real_date(n: u32) -> bool
     ensures { λ r. ⌜ r ≡ realDate n ⌝ }
 {
     let year = n / 10000;
     let month = n / 100 % 100;
     let day = n % 100;
-    (year <= 9999)
-        & ((1 <= month) & (month <= 12))
-        & ((1 <= day) & (day <= month_length(year, month)))
+    if year <= 9999 {
+        if (1 <= month) & (month <= 12) {
+            return is_day(year, month, day);
+        }
+    }
+    false
 }
 
 pub fn is_real_time(n: u32) -> bool

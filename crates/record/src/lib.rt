@@ -137,11 +137,11 @@ fn outcome_after(s: &[u8], n: u32) -> OutcomeRead
 fn date_at(s: &[u8], at: usize) -> FieldRead
     ensures { λ r. ⌜ r ≡ dateRead (now (s .entry)) at ⌝ }
 {
-    let FieldRead::Field(date) = field_after(s, at, b"\" ", 8) else {
+    let FieldRead::Field(n) = field_after(s, at, b"\" ", 8) else {
         return FieldRead::NoField;
     };
-    if calendar::is_real_date(date) {
-        return FieldRead::Field(date);
+    if calendar::is_real_date(n) {
+        return FieldRead::Field(n);
     }
     FieldRead::NoField
 }
@@ -272,7 +272,10 @@ fn in_range(n: u32, outcome: Outcome, text: &[u8]) -> bool
 pub fn is_real(date: u32, time: u32) -> bool
     ensures { λ r. ⌜ r ≡ isReal date time ⌝ }
 {
-    calendar::is_real_date(date) & calendar::is_real_time(time)
+    if calendar::is_real_date(date) {
+        return calendar::is_real_time(time);
+    }
+    false
 }
 
 fn fixed_length(outcome: Outcome) -> usize

@@ -1,3 +1,4 @@
+pub mod Tests
 pub mod Runs
 pub mod Blanks
 pub mod Settled

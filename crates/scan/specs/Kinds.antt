@@ -1,6 +1,6 @@
 -- Which bytes are of which kind (document 01, "Bytes and tokens").
 use Prim.Native.Nat.{ℕ}
-use mathlib.Core.Bool.{Bool, cond, _&&_, _||_}
+use mathlib.Core.Bool.{Bool, cond, not, _&&_, _||_}
 use lib.Dec.{eqb, leb}
 
 -- low ≤ b ≤ high
@@ -34,8 +34,13 @@ isNumericByte b = isWordByte b || eqb b 46 || eqb b 58
 abbrev pub isTextByte : ℕ → Bool
 isTextByte b = within 32 33 b || within 35 254 b
 
--- The kinds of which there are runs, by the numbers that code has for them: of a word, of a numeric run, digits, of a string.
+-- what a comment runs over
+abbrev pub isCommentByte : ℕ → Bool
+isCommentByte b = not (isLineEnd b)
+
+-- The kinds of which there are runs, by the numbers that code has for them: of a word, of a numeric run, digits, of a string, of a comment.
 abbrev pub ofKind : ℕ → ℕ → Bool
 ofKind kind b =
     cond (eqb kind 0) (isWordByte b)
-    (cond (eqb kind 1) (isNumericByte b) (cond (eqb kind 2) (isDigit b) (isTextByte b)))
+    (cond (eqb kind 1) (isNumericByte b)
+    (cond (eqb kind 2) (isDigit b) (cond (eqb kind 3) (isTextByte b) (isCommentByte b))))

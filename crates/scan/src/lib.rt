@@ -5,7 +5,7 @@ ghost use mathlib.Core.Path.{_≡_};
 ghost use mathlib.Core.Bool.{false};
 ghost use Prim.Native.Nat.{_<_, _≤_};
 ghost use lib.ListN.{length, getD};
-ghost use Rattle.scan.specs.Kinds.{isSeparator, isLineEnd, isDigit, isLetter, isWordByte, isNumericByte, isTextByte, ofKind};
+ghost use Rattle.scan.specs.Kinds.{isSeparator, isDigit, isLetter, isWordByte, isNumericByte, isTextByte, isCommentByte, ofKind};
 ghost use Rattle.scan.specs.Run.{runEnd, blankEnd, commentAt, isWordAt, Reached};
 
 // The kinds of which there are runs.
@@ -18,18 +18,14 @@ pub const DIGIT: u8 = 2;
 
 pub const TEXT: u8 = 3;
 
-// The kinds of byte. One expression with & and |, not && and ||: no branch.
+pub const COMMENT: u8 = 4;
+
+// The kinds of byte. In a run the test of each byte is what costs: the kinds that long runs have ask first what most bytes answer.
 
 fn is_separator(b: u8) -> bool
     ensures { λ r. ⌜ r ≡ isSeparator b ⌝ }
 {
     (b == 32) | (b == 9) | (b == 13) | (b == 10)
-}
-
-fn is_line_end(b: u8) -> bool
-    ensures { λ r. ⌜ r ≡ isLineEnd b ⌝ }
-{
-    (b == 13) | (b == 10)
 }
 
 pub fn is_digit(b: u8) -> bool
@@ -54,24 +50,37 @@ pub fn is_letter(b: u8) -> bool
 fn is_word_byte(b: u8) -> bool
     ensures { λ r. ⌜ r ≡ isWordByte b ⌝ }
 {
-    (65 <= b) & (b <= 90) | (97 <= b) & (b <= 122) | (48 <= b) & (b <= 57) | (b == 95)
+    if is_letter(b) {
+        return true;
+    }
+    is_digit(b) | (b == 95)
 }
 
 fn is_numeric_byte(b: u8) -> bool
     ensures { λ r. ⌜ r ≡ isNumericByte b ⌝ }
 {
-    (65 <= b) & (b <= 90)
-        | (97 <= b) & (b <= 122)
-        | (48 <= b) & (b <= 57)
-        | (b == 95)
-        | (b == 46)
-        | (b == 58)
+    if is_digit(b) {
+        return true;
+    }
+    is_letter(b) | (b == 95) | (b == 46) | (b == 58)
 }
 
 fn is_text_byte(b: u8) -> bool
     ensures { λ r. ⌜ r ≡ isTextByte b ⌝ }
 {
-    (32 <= b) & (b <= 33) | (35 <= b) & (b <= 254)
+    if 34 < b {
+        return b <= 254;
+    }
+    (32 <= b) & (b <= 33)
+}
+
+fn is_comment_byte(b: u8) -> bool
+    ensures { λ r. ⌜ r ≡ isCommentByte b ⌝ }
+{
+    if 13 < b {
+        return true;
+    }
+    (b != 13) & (b != 10)
 }
 
 // Whether b is of the kind.
@@ -87,7 +96,10 @@ fn is_of(kind: u8, b: u8) -> bool
     if kind == DIGIT {
         return is_digit(b);
     }
-    is_text_byte(b)
+    if kind == TEXT {
+        return is_text_byte(b);
+    }
+    is_comment_byte(b)
 }
 
 // The end of a run of one kind: one loop for all of them.
@@ -118,16 +130,11 @@ pub fn blank_end(s: &[u8], at: usize) -> usize
     ensures { λ r. ⌜ Reached (now (s .entry)) at (blankEnd false (now (s .entry)) at) r ⌝ }
 {
     let mut i = at;
-    let mut comment = false;
     while i < s.len() {
-        if comment {
-            comment = !is_line_end(s[i]);
-            i += 1;
-        } else if is_separator(s[i]) {
+        if is_separator(s[i]) {
             i += 1;
         } else if comment_at(s, i) {
-            comment = true;
-            i += 1;
+            i = run_end(s, i + 1, COMMENT);
         } else {
             return i;
         }
@@ -140,5 +147,8 @@ pub fn is_word(s: &[u8], start: usize, end: usize, w: &[u8]) -> bool
     requires { ⌜ start ≤ end ⌝ }
     ensures { λ r. ⌜ r ≡ isWordAt (now (s .entry)) start end (now (w .entry)) ⌝ }
 {
-    (end - start == w.len()) & has_at(s, start, w)
+    if end - start == w.len() {
+        return has_at(s, start, w);
+    }
+    false
 }

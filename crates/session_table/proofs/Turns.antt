@@ -35,6 +35,12 @@ pub given-is : (b : List ℕ) (s : ℕ) (h : Head) → soundBytes b ≡ true →
 unfolding headOf
 given-is b s h e l q = rw (waits b e s l .stands-there .held, answers-held b s, q)
 
+-- what is left where nothing was in hand and a session has been given
+pub given-leaves : (b : List ℕ) (s : ℕ) → given (abs b) s ≡ takingUp b → number b handAt ≡ 0
+    → putNumber (putNumber b markAt s) handAt (s + 1) ≡ takenBytes b
+unfolding takenBytes
+given-leaves b s q e = rw (← q, eq-eqb (number b handAt) 0 e)
+
 module _ (b : List ℕ) where
   pub take-up-13 : soundBytes b ≡ false → verdict unsound ≡ only (takingUp b)
   unfolding takingUp

@@ -1,5 +1,6 @@
 // The session table: make, place, take up, answer, collect. Each call is a thin function over one that gives the number of the refusal, in
-// document 01's order and 0 for none, and one that does what the call does where there is none.
+// document 01's order and 0 for none, and one that does what the call does where there is none. Only take up is one way through, so that it
+// goes round the sessions once.
 use counts::ALL_TAKEN;
 use counts::COMMANDS;
 use counts::CommandNumber;
@@ -164,25 +165,6 @@ pub fn place(b: &mut [u8], program: u32, count: u32) -> Placed
     Placed::Refused(Refusal::plain(no))
 }
 
-fn take_up_refusal(b: &[u8]) -> u32
-    ensures { λ r. ⌜ verdict r ≡ only (takingUp (now (b .entry))) ⌝ }
-{
-    if is_sound(b) {
-        let t = get_table(b);
-        if t.hand == 0 {
-            if next_waiting(b) < t.max {
-                0
-            } else {
-                NOTHING_UNANSWERED
-            }
-        } else {
-            0
-        }
-    } else {
-        UNSOUND
-    }
-}
-
 // The session's lowest unanswered command.
 fn given(b: &[u8], s: SessionNumber) -> TakenUp
     requires { ⌜ (soundBytes (now b) ≡ true) × (isWaiting (slotOf (now b) (s .0)) ≡ true) ⌝ }
@@ -193,37 +175,42 @@ fn given(b: &[u8], s: SessionNumber) -> TakenUp
     TakenUp::Given(s, t, CommandNumber(h.answered + 1))
 }
 
-fn take_up_next(b: &mut [u8]) -> TakenUp
-    requires { ⌜ (only (takingUp (now b)) ≡ done tt) × (number (now b) handAt ≡ 0) ⌝ }
+// The session is next in turn: its command is in hand now.
+fn take_up_at(b: &mut [u8], s: SessionNumber) -> TakenUp
+    requires { ⌜ (only (takingUp (now b)) ≡ done tt) × (number (now b) handAt ≡ 0) × (isWaiting (slotOf (now b) (s .0)) ≡ true) × (givenBy (abs (now b)) (s .0) ≡ takingUp (now b)) ⌝ }
     ensures { λ r. ⌜ (paperTakenUp r ≡ takingUp (now (b .entry))) × (now (b .exit) ≡ takenBytes (now (b .entry))) ⌝ }
 {
-    let s = in_turn(get_table(b), next_waiting(b));
     let r = given(b, s);
     put_mark(b, s);
     put_hand(b, s.0 + 1);
     r
 }
 
-fn take_up_now(b: &mut [u8]) -> TakenUp
-    requires { ⌜ only (takingUp (now b)) ≡ done tt ⌝ }
+// Nothing is in hand.
+fn take_up_next(b: &mut [u8]) -> TakenUp
+    requires { ⌜ (soundBytes (now b) ≡ true) × (number (now b) handAt ≡ 0) ⌝ }
     ensures { λ r. ⌜ (paperTakenUp r ≡ takingUp (now (b .entry))) × (now (b .exit) ≡ takenBytes (now (b .entry))) ⌝ }
 {
-    let hand = get_table(b).hand;
-    if hand == 0 {
-        return take_up_next(b);
+    let t = get_table(b);
+    let i = next_waiting(b);
+    if i < t.max {
+        return take_up_at(b, in_turn(t, i));
     }
-    given(b, SessionNumber(hand - 1))
+    TakenUp::Refused(Refusal::plain(NOTHING_UNANSWERED))
 }
 
 // Gives the command in hand again, or takes up the next.
 pub fn take_up(b: &mut [u8]) -> TakenUp
     ensures { λ r. ⌜ (paperTakenUp r ≡ takingUp (now (b .entry))) × (now (b .exit) ≡ takenBytes (now (b .entry))) ⌝ }
 {
-    let no = take_up_refusal(b);
-    if no == 0 {
-        return take_up_now(b);
+    if is_sound(b) {
+        let hand = get_table(b).hand;
+        if hand == 0 {
+            return take_up_next(b);
+        }
+        return given(b, SessionNumber(hand - 1));
     }
-    TakenUp::Refused(Refusal::plain(no))
+    TakenUp::Refused(Refusal::plain(UNSOUND))
 }
 
 // Whether ticket and command are those of the command in hand.

@@ -89,8 +89,11 @@ fn is_new(b: &[u8], s: SessionNumber, t: Ticket) -> bool
 fn is_real(a: Answer) -> bool
     ensures { λ r. ⌜ r ≡ isReal a ⌝ }
 {
-    let o = a.outcome;
-    record::is_real(a.date, a.time) & record::is_outcome(o)
+    if record::is_real(a.date, a.time) {
+        let o = a.outcome;
+        return record::is_outcome(o);
+    }
+    false
 }
 
 // Whether each of the first n answers of the session is in range with a real date and time.

@@ -227,12 +227,14 @@ fn is_time(s: &[u8], i: usize, e: usize) -> bool
     requires { ⌜ (i ≤ e) × (e ≤ fileBytes) ⌝ }
     ensures { λ r. ⌜ r ≡ isTimeAt (now (s .entry)) i e ⌝ }
 {
-    (e - i == 8)
-        & pair_at(s, i)
-        & (byte_at(s, i + 2) == 58)
-        & pair_at(s, i + 3)
-        & (byte_at(s, i + 5) == 58)
-        & pair_at(s, i + 6)
+    if e - i == 8 {
+        return pair_at(s, i)
+            & (byte_at(s, i + 2) == 58)
+            & pair_at(s, i + 3)
+            & (byte_at(s, i + 5) == 58)
+            & pair_at(s, i + 6);
+    }
+    false
 }
 
 // 1 to 16 digits from d to e, with at most one point between two of them.

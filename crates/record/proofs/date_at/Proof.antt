@@ -11,8 +11,8 @@ slice-aggregate-field-after c = search needs
 field-after-requires : tie.Need-field-after-requires
 field-after-requires c κs = search needs
 
-enum-known-date : tie.Need-enum-known-date
-enum-known-date c = search needs
+enum-known-n : tie.Need-enum-known-n
+enum-known-n c = search needs
 
 enum-told : tie.Need-enum-told
 enum-told c = search needs
@@ -38,7 +38,7 @@ date-at-spec =
     (tie.spec
     slice-aggregate-field-after
     field-after-requires
-    enum-known-date
+    enum-known-n
     enum-told
     returns
     is-real-date-requires

@@ -1,5 +1,5 @@
 -- `record::is_real` meets its contract.
-use Rattle.record.proofs.Rules.{reads}
+use mathlib.Core.Path.{sym, _∙_}
 use Rattle.record.specs.Record.{isReal}
 use borrow.Author.Needs.{needs}
 use Rattle.record.proofs.is_real.Statement.{statement}
@@ -13,7 +13,11 @@ is-real-time-requires c κs = search needs
 
 returns : tie.Need-returns
 unfolding isReal
-returns c = search reads depth 9
+returns c = rw (sym (c .before .before .is-real-date .ensures) ∙ c .before .if1 .taken) (c .is-real-time .ensures)
+
+returns-2 : tie.Need-returns-2
+unfolding isReal
+returns-2 c = rw (sym (c .before .is-real-date .ensures) ∙ c .if1 .left)
 
 pub is-real-spec : {M : Type 1} → statement M
-is-real-spec = tie.close (tie.spec is-real-date-requires is-real-time-requires returns)
+is-real-spec = tie.close (tie.spec is-real-date-requires is-real-time-requires returns returns-2)

@@ -1,4 +1,3 @@
--- `scan::is_of` meets its contract. Assumes nothing.
 use Rattle.laws.proofs.Choose.{choose}
 use borrow.Author.Needs.{needs}
 use Rattle.scan.proofs.is_of.Statement.{statement}
@@ -28,6 +27,12 @@ is-text-byte-requires c κs = search needs
 returns-4 : tie.Need-returns-4
 returns-4 c = search choose depth 9
 
+is-comment-byte-requires : tie.Need-is-comment-byte-requires
+is-comment-byte-requires c κs = search needs
+
+returns-5 : tie.Need-returns-5
+returns-5 c = search choose depth 9
+
 pub is-of-spec : {M : Type 1} → statement M
 is-of-spec =
     tie.close
@@ -39,4 +44,6 @@ is-of-spec =
     is-digit-requires
     returns-3
     is-text-byte-requires
-    returns-4)
+    returns-4
+    is-comment-byte-requires
+    returns-5)

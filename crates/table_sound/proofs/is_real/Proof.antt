@@ -1,4 +1,4 @@
-use Rattle.laws.proofs.Choose.{choose}
+use mathlib.Core.Path.{sym, _∙_}
 use Rattle.sessions.specs.Sound.{isReal}
 use borrow.Author.Needs.{needs}
 use Rattle.table_sound.proofs.is_real.Statement.{statement}
@@ -12,7 +12,11 @@ is-outcome-requires c κs = search needs
 
 returns : tie.Need-returns
 unfolding isReal
-returns c = search choose
+returns c = rw (sym (c .before .before .is-real .ensures) ∙ c .before .if1 .taken) (c .is-outcome .ensures)
+
+returns-2 : tie.Need-returns-2
+unfolding isReal
+returns-2 c = rw (sym (c .before .is-real .ensures) ∙ c .if1 .left)
 
 pub is-real-spec : {M : Type 1} → statement M
-is-real-spec = tie.close (tie.spec is-real-requires is-outcome-requires returns)
+is-real-spec = tie.close (tie.spec is-real-requires is-outcome-requires returns returns-2)
