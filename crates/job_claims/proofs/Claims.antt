@@ -5,6 +5,7 @@ use mathlib.Core.Path.{_≡_, refl, _∙_, subst}
 use mathlib.Core.Bool.{Bool, true, false, cond}
 use mathlib.Core.List.{List}
 use mathlib.Core.Logic.{_↔_, _⊎_, inl, inr}
+use native.Mathlib.Omega.{arith}
 use borrow.Author.Tests.{leb-true, leb-false, le-leb, lt-leb}
 use lib.Dec.{leb}
 use lib.ListN.{length}
@@ -21,6 +22,7 @@ use Rattle.item.proofs.Lines.{line-tokens}
 use Rattle.item.proofs.Ends.{end-is-length}
 use Rattle.job.specs.Statement.{Tiled}
 use Rattle.job.proofs.Bridge.{by-statements}
+use Rattle.job_claims.proofs.Places.{broken-within, end-within, token-within}
 use Rattle.job_claims.proofs.Tiles.{tiles}
 use Rattle.job_claims.specs.Verdict.{Verdict, Taken, Crowded}
 use Rattle.job_claims.specs.Verdict.Verdict.{too-long, broken, no-room, fits}
@@ -115,3 +117,16 @@ module _ (s : List ℕ) (room : ℕ) where
   -- The place of a refusal for the end of the file is the file's length.
   pub end-is-last : (p : ℕ) → FourEnd (line s .tokens) (line s .last) p → p ≡ length s
   end-is-last p r = end-is-length s p (r .1)
+
+  -- A refusal's number is at most 14 and its place within the file: both fit the one number that a C program gets.
+  pub refusal-fits : {n p : ℕ} → readJob s room ≡ refused n p → (n ≤ 14) × (p ≤ fileBytes)
+  refusal-fits e = fits-in (given e)
+    where
+      fits-in : {n p : ℕ} → Verdict s room (refused n p) → (n ≤ 14) × (p ≤ fileBytes)
+      fits-in (too-long l) = (omega arith, omega arith)
+      fits-in (broken l (three r)) = (omega arith, omega (arith, broken-within (line-tokens s) (omega arith) (r .1)))
+      fits-in (broken l (four-token r)) = (omega arith, omega (arith, token-within (line-tokens s) (r .2)))
+      fits-in (broken l (four-end r)) = (omega arith, omega (arith, end-within (line-tokens s) (omega arith) (r .1)))
+      fits-in (broken l (five r)) = (omega arith, omega (arith, token-within (line-tokens s) (r .2)))
+      fits-in (broken l (six r)) = (omega arith, omega (arith, token-within (line-tokens s) (r .2)))
+      fits-in (no-room l y r) = (omega arith, omega arith)

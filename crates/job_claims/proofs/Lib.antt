@@ -1,3 +1,4 @@
+pub mod Places
 pub mod Tiles
 pub mod One
 pub mod Claims

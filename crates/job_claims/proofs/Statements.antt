@@ -29,6 +29,7 @@ use Rattle.statement.proofs.From.{statement-from}
 use Rattle.job.specs.Statement.{onRead, statementIn, readStatement}
 use Rattle.job.specs.declared.StatementAt.{StatementAt}
 use Rattle.job_claims.specs.Rows.{One, OneThree, OneFourEnd, OneFourToken, OneFive}
+use Rattle.job_claims.proofs.Places.{broken-within, end-within, token-within}
 use Rattle.job_claims.proofs.One.{Judged, says-one, one-says}
 use Rattle.job_claims.proofs.One.Judged.{read, three, four-end, four-token, five}
 
@@ -132,3 +133,15 @@ module _ (s : List ℕ) (at : ℕ) (ts : List Placed) (z : Last) (d : Tokens s a
       to : OneFourToken ts p ⊎ OneFourEnd ts z p → Judged s at ts z (stopped unexpected p)
       to (inl r) = four-token r
       to (inr r) = four-end r
+
+  -- A refusal's number is at most 14 and its place within the file.
+  pub statement-refusal-fits : {n p : ℕ} → readStatement s at ≡ refused n p → (n ≤ 14) × (p ≤ fileBytes)
+  statement-refusal-fits e = fits-in (asked e)
+    where
+      fits-in : {n p : ℕ} → Verdict (refused n p) → (n ≤ 14) × (p ≤ fileBytes)
+      fits-in (too-long l) = (omega arith, omega arith)
+      fits-in (past l m) = (omega arith, omega arith)
+      fits-in (not-read l m (three r)) = (omega arith, omega (arith, broken-within d m (r .2)))
+      fits-in (not-read l m (four-end r)) = (omega arith, omega (arith, end-within d m (r .2)))
+      fits-in (not-read l m (four-token r)) = (omega arith, omega (arith, token-within d (r .2)))
+      fits-in (not-read l m (five r)) = (omega arith, omega (arith, token-within d (r .2)))

@@ -260,7 +260,7 @@ pub fn is_outcome(outcome: Outcome) -> bool
 fn is_text(text: &[u8]) -> bool
     ensures { λ r. ⌜ r ≡ isText (now (text .entry)) ⌝ }
 {
-    (text.len() <= TEXT_BYTES) & (scan::run_end(text, 0, scan::TEXT) == text.len())
+    (text.len() <= TEXT_BYTES) & scan::is_all_text(text)
 }
 
 fn in_range(n: u32, outcome: Outcome, text: &[u8]) -> bool

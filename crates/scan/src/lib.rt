@@ -4,6 +4,7 @@ use field::has_at;
 ghost use mathlib.Core.Path.{_≡_};
 ghost use mathlib.Core.Bool.{false};
 ghost use Prim.Native.Nat.{_<_, _≤_};
+ghost use lib.Dec.{eqb};
 ghost use lib.ListN.{length, getD};
 ghost use Rattle.scan.specs.Kinds.{isSeparator, isDigit, isLetter, isWordByte, isNumericByte, isTextByte, isCommentByte, ofKind};
 ghost use Rattle.scan.specs.Run.{runEnd, blankEnd, commentAt, isWordAt, Reached};
@@ -115,6 +116,20 @@ pub fn run_end(s: &[u8], at: usize, kind: u8) -> usize
         }
     }
     i
+}
+
+// Whether every byte may stand in a string. The loop has one way out, and the test no branch: so the compiler tests many bytes at a time.
+pub fn is_all_text(s: &[u8]) -> bool
+    ensures { λ r. ⌜ r ≡ eqb (runEnd isTextByte (now (s .entry)) 0) (length (now (s .entry))) ⌝ }
+{
+    let mut all = true;
+    let mut i = 0;
+    while i < s.len() {
+        let b = s[i];
+        all = all & ((32 <= b) & (b <= 33) | (35 <= b) & (b <= 254));
+        i += 1;
+    }
+    all
 }
 
 // Whether // stands at i.

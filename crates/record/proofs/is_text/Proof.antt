@@ -5,12 +5,12 @@ use borrow.Author.Needs.{needs}
 use Rattle.record.proofs.is_text.Statement.{statement}
 use Rattle.record.proofs.is_text.Tie as tie
 
-run-end-requires : tie.Need-run-end-requires
-run-end-requires c κs = search needs
+is-all-text-requires : tie.Need-is-all-text-requires
+is-all-text-requires c κs = search needs
 
 returns : tie.Need-returns
 unfolding isText
 returns c = search reads depth 9
 
 pub is-text-spec : {M : Type 1} → statement M
-is-text-spec = tie.close (tie.spec run-end-requires returns)
+is-text-spec = tie.close (tie.spec is-all-text-requires returns)
