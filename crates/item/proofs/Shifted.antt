@@ -1,6 +1,6 @@
 -- What stands in a file stands in the file with one byte more in front, one place later: so the bytes of a file from a place on read, from
 -- there, as the file does. Assumes nothing.
-use Prim.Native.Nat.{ℕ, suc, _-_, compare·suc-suc}
+use Prim.Native.Nat.{ℕ, suc, compare·suc-suc}
 use mathlib.Core.Path.{_≡_, refl, _∙_, ap}
 use mathlib.Core.Bool.{Bool, true, false, cond}
 use mathlib.Core.List.{List, _∷_}

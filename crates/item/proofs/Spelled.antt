@@ -1,5 +1,5 @@
 -- Every list of classes is the classes of some file's tokens: so what may stand by its tokens may stand in a file. Assumes nothing.
-use Prim.Native.Nat.{ℕ, suc, _+_, _<_}
+use Prim.Native.Nat.{ℕ, suc, _<_}
 use mathlib.Core.Path.{_≡_, refl, sym, _∙_, ap, subst}
 use mathlib.Core.Bool.{false, cond, _||_}
 use mathlib.Core.List.{List, [], _∷_, _++_}
@@ -102,63 +102,41 @@ in-file : (s : List ℕ) (i : ℕ) → i < length s → tokenAt s i ≡ tokenIn 
 unfolding tokenAt tokenIn
 in-file s i l = rw (lt-ltb _ _ l)
 
-first-token : (c : Class) (r : List ℕ) → itemOf (32 ∷ (spell c ++ (32 ∷ r))) (tokenIn (32 ∷ (spell c ++ (32 ∷ r))) 1) ≡ at c 1 (suc (length (spell c)))
-unfolding tokenIn itemOf wordClass clauseClass abortClass numberClass timeNumber digitsRead value isDigitByte allDigits part realDate realTime monthLength februaryLength wordAt textAt isTimeAt isNumberAt shapedAt numericAt signAt run runEnd same hasAt
-first-token JOB r = refl
-first-token RESPONSE r = refl
-first-token UPLOAD r = refl
-first-token DOWNLOAD r = refl
-first-token GETINFO r = refl
-first-token ABORT r = refl
-first-token REPORT r = refl
-first-token EVENT r = refl
-first-token START r = refl
-first-token ACTIVE r = refl
-first-token IMMEDIATE r = refl
-first-token reserved r = refl
-first-token name r = refl
-first-token TIME≥ r = refl
-first-token number r = refl
-first-token date r = refl
-first-token unrealDate r = refl
-first-token time r = refl
-first-token unrealTime r = refl
-first-token string r = refl
-first-token operator r = refl
-first-token semicolon r = refl
-
-after-blank : (c : Class) (r : List ℕ) → blankEnd false (32 ∷ (spell c ++ (32 ∷ r))) 0 ≡ 1
-unfolding blankEnd blank
-after-blank JOB r = refl
-after-blank RESPONSE r = refl
-after-blank UPLOAD r = refl
-after-blank DOWNLOAD r = refl
-after-blank GETINFO r = refl
-after-blank ABORT r = refl
-after-blank REPORT r = refl
-after-blank EVENT r = refl
-after-blank START r = refl
-after-blank ACTIVE r = refl
-after-blank IMMEDIATE r = refl
-after-blank reserved r = refl
-after-blank name r = refl
-after-blank TIME≥ r = refl
-after-blank number r = refl
-after-blank date r = refl
-after-blank unrealDate r = refl
-after-blank time r = refl
-after-blank unrealTime r = refl
-after-blank string r = refl
-after-blank operator r = refl
-after-blank semicolon r = refl
+-- the blank before it is passed over, and then the spelling is a token of its class
+first-token : (c : Class) (r : List ℕ)
+    → (blankEnd false (32 ∷ (spell c ++ (32 ∷ r))) 0 ≡ 1)
+    × (itemOf (32 ∷ (spell c ++ (32 ∷ r))) (tokenIn (32 ∷ (spell c ++ (32 ∷ r))) 1) ≡ at c 1 (suc (length (spell c))))
+unfolding tokenIn itemOf wordClass clauseClass abortClass numberClass timeNumber digitsRead value isDigitByte allDigits part realDate realTime monthLength februaryLength wordAt textAt isTimeAt isNumberAt shapedAt numericAt signAt run runEnd same hasAt blankEnd blank
+first-token JOB r = (refl, refl)
+first-token RESPONSE r = (refl, refl)
+first-token UPLOAD r = (refl, refl)
+first-token DOWNLOAD r = (refl, refl)
+first-token GETINFO r = (refl, refl)
+first-token ABORT r = (refl, refl)
+first-token REPORT r = (refl, refl)
+first-token EVENT r = (refl, refl)
+first-token START r = (refl, refl)
+first-token ACTIVE r = (refl, refl)
+first-token IMMEDIATE r = (refl, refl)
+first-token reserved r = (refl, refl)
+first-token name r = (refl, refl)
+first-token TIME≥ r = (refl, refl)
+first-token number r = (refl, refl)
+first-token date r = (refl, refl)
+first-token unrealDate r = (refl, refl)
+first-token time r = (refl, refl)
+first-token unrealTime r = (refl, refl)
+first-token string r = (refl, refl)
+first-token operator r = (refl, refl)
+first-token semicolon r = (refl, refl)
 
 first-item : (c : Class) (r : List ℕ) → nextItem (32 ∷ (spell c ++ (32 ∷ r))) 0 ≡ at c 1 (suc (length (spell c)))
 unfolding nextItem nextToken
 first-item c r =
     let l : 1 < length (32 ∷ (spell c ++ (32 ∷ r))) = omega (arith, length-append (spell c) (32 ∷ r)) in
-    ap (λ (i : ℕ). itemOf (32 ∷ (spell c ++ (32 ∷ r))) (tokenAt (32 ∷ (spell c ++ (32 ∷ r))) i)) (after-blank c r)
+    ap (λ (i : ℕ). itemOf (32 ∷ (spell c ++ (32 ∷ r))) (tokenAt (32 ∷ (spell c ++ (32 ∷ r))) i)) (first-token c r .0)
     ∙ ap (itemOf (32 ∷ (spell c ++ (32 ∷ r)))) (in-file (32 ∷ (spell c ++ (32 ∷ r))) 1 l)
-    ∙ first-token c r
+    ∙ first-token c r .1
 
 blank-file : nextItem (32 ∷ []) 0 ≡ ended 1
 unfolding nextItem nextToken tokenAt itemOf blankEnd blank

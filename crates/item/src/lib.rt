@@ -18,7 +18,7 @@ ghost use Rattle.field.specs.Part.{part};
 ghost use Rattle.token.specs.Token.{Short};
 ghost use Rattle.number.specs.Number.{numberOf};
 ghost use Rattle.item.specs.Tokens.{isOther, abortClass, clauseClass, wordClass, numberClass, dateNumber, twoAt, timeClass, timeNumber};
-ghost use Rattle.item.specs.Items.{operatorNo, madeOf, made, numbered, itemAt, Seen, Stood};
+ghost use Rattle.item.specs.Items.{operatorNo, madeOf, made, Seen, Stood};
 
 // The classes of tokens.
 

@@ -26,7 +26,6 @@ ghost use lib.ListN.{length, take, drop};
 ghost use Rattle.counts.specs.Limits.{fileBytes, statements};
 ghost use Rattle.counts.specs.Refusals.{refusal};
 ghost use Rattle.token.specs.Token.{isTextAt};
-ghost use Rattle.item.specs.Items.{Seen};
 ghost use Rattle.job.specs.Job.{readJob, counted, filled, jobSays};
 ghost use Rattle.job.specs.Statement.{onRead, statementIn, readStatement, statementSays, textAt};
 ghost use Rattle.job.specs.Loop.{stop, stepRead, stepInto, stepOf, jobLoop, foundOf};

@@ -118,15 +118,15 @@ module _ (s : List ℕ) (room : ℕ) where
   pub end-is-last : (p : ℕ) → FourEnd (line s .tokens) (line s .last) p → p ≡ length s
   end-is-last p r = end-is-length s p (r .1)
 
-  -- A refusal's number is at most 14 and its place within the file: both fit the one number that a C program gets.
-  pub refusal-fits : {n p : ℕ} → readJob s room ≡ refused n p → (n ≤ 14) × (p ≤ fileBytes)
+  -- A refusal's number is from 1 to 14 and its place within the file: both fit the one number that a C program gets.
+  pub refusal-fits : {n p : ℕ} → readJob s room ≡ refused n p → (1 ≤ n) × (n ≤ 14) × (p ≤ fileBytes)
   refusal-fits e = fits-in (given e)
     where
-      fits-in : {n p : ℕ} → Verdict s room (refused n p) → (n ≤ 14) × (p ≤ fileBytes)
-      fits-in (too-long l) = (omega arith, omega arith)
-      fits-in (broken l (three r)) = (omega arith, omega (arith, broken-within (line-tokens s) (omega arith) (r .1)))
-      fits-in (broken l (four-token r)) = (omega arith, omega (arith, token-within (line-tokens s) (r .2)))
-      fits-in (broken l (four-end r)) = (omega arith, omega (arith, end-within (line-tokens s) (omega arith) (r .1)))
-      fits-in (broken l (five r)) = (omega arith, omega (arith, token-within (line-tokens s) (r .2)))
-      fits-in (broken l (six r)) = (omega arith, omega (arith, token-within (line-tokens s) (r .2)))
-      fits-in (no-room l y r) = (omega arith, omega arith)
+      fits-in : {n p : ℕ} → Verdict s room (refused n p) → (1 ≤ n) × (n ≤ 14) × (p ≤ fileBytes)
+      fits-in (too-long l) = (omega arith, omega arith, omega arith)
+      fits-in (broken l (three r)) = (omega arith, omega arith, omega (arith, broken-within (line-tokens s) (omega arith) (r .1)))
+      fits-in (broken l (four-token r)) = (omega arith, omega arith, omega (arith, token-within (line-tokens s) (r .2)))
+      fits-in (broken l (four-end r)) = (omega arith, omega arith, omega (arith, end-within (line-tokens s) (omega arith) (r .1)))
+      fits-in (broken l (five r)) = (omega arith, omega arith, omega (arith, token-within (line-tokens s) (r .2)))
+      fits-in (broken l (six r)) = (omega arith, omega arith, omega (arith, token-within (line-tokens s) (r .2)))
+      fits-in (no-room l y r) = (omega arith, omega arith, omega arith)

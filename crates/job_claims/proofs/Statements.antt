@@ -134,14 +134,14 @@ module _ (s : List ℕ) (at : ℕ) (ts : List Placed) (z : Last) (d : Tokens s a
       to (inl r) = four-token r
       to (inr r) = four-end r
 
-  -- A refusal's number is at most 14 and its place within the file.
-  pub statement-refusal-fits : {n p : ℕ} → readStatement s at ≡ refused n p → (n ≤ 14) × (p ≤ fileBytes)
+  -- A refusal's number is from 1 to 14 and its place within the file.
+  pub statement-refusal-fits : {n p : ℕ} → readStatement s at ≡ refused n p → (1 ≤ n) × (n ≤ 14) × (p ≤ fileBytes)
   statement-refusal-fits e = fits-in (asked e)
     where
-      fits-in : {n p : ℕ} → Verdict (refused n p) → (n ≤ 14) × (p ≤ fileBytes)
-      fits-in (too-long l) = (omega arith, omega arith)
-      fits-in (past l m) = (omega arith, omega arith)
-      fits-in (not-read l m (three r)) = (omega arith, omega (arith, broken-within d m (r .2)))
-      fits-in (not-read l m (four-end r)) = (omega arith, omega (arith, end-within d m (r .2)))
-      fits-in (not-read l m (four-token r)) = (omega arith, omega (arith, token-within d (r .2)))
-      fits-in (not-read l m (five r)) = (omega arith, omega (arith, token-within d (r .2)))
+      fits-in : {n p : ℕ} → Verdict (refused n p) → (1 ≤ n) × (n ≤ 14) × (p ≤ fileBytes)
+      fits-in (too-long l) = (omega arith, omega arith, omega arith)
+      fits-in (past l m) = (omega arith, omega arith, omega arith)
+      fits-in (not-read l m (three r)) = (omega arith, omega arith, omega (arith, broken-within d m (r .2)))
+      fits-in (not-read l m (four-end r)) = (omega arith, omega arith, omega (arith, end-within d m (r .2)))
+      fits-in (not-read l m (four-token r)) = (omega arith, omega arith, omega (arith, token-within d (r .2)))
+      fits-in (not-read l m (five r)) = (omega arith, omega arith, omega (arith, token-within d (r .2)))

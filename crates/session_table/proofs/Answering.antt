@@ -1,12 +1,12 @@
 -- Answering: the ways through its tests, and what it leaves. Assumes nothing.
-use Prim.Native.Nat.{ℕ, _+_, _-_, _≤_, _<_}
-use mathlib.Core.Path.{_≡_, refl, _∙_, ap, sym, subst}
-use mathlib.Core.Bool.{Bool, true, false, cond, _&&_, false≢true}
+use Prim.Native.Nat.{ℕ, _+_, _-_, _≤_}
+use mathlib.Core.Path.{_≡_, refl, _∙_, ap, sym}
+use mathlib.Core.Bool.{Bool, true, false, _&&_, false≢true}
 use mathlib.Core.List.{List}
 use native.Mathlib.Omega.{arith}
 use borrow.Author.Tests.{leb-true}
 use lib.Dec.{eqb, leb}
-use Rattle.counts.specs.Limits.{commands, sessions, classMost, codeMost}
+use Rattle.counts.specs.Limits.{classMost, codeMost}
 use Rattle.counts.specs.Refusals.{notReal, notARecord, notTheOne, unsound, refusal}
 use Rattle.counts.specs.Result.{refused, done}
 use Rattle.counts.specs.declared.Refusal.{Refusal}
@@ -15,7 +15,7 @@ use Rattle.sessions.proofs.Laws.{refused≢done}
 use Rattle.sessions.specs.Find.{Found, none, at}
 use Rattle.record.specs.Record.{isOutcome}
 use Rattle.sessions.specs.Records.{isDated}
-use Rattle.sessions.specs.Table.{State, names, lowest, answerHand, answer}
+use Rattle.sessions.specs.Table.{State, names, answerHand, answer}
 use Rattle.sessions.specs.declared.Answer.{Answer}
 use Rattle.record.specs.declared.Outcome.{Outcome}
 use Rattle.record.specs.declared.Outcome.the-variants.{Processed, Error}

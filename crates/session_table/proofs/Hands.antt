@@ -1,8 +1,8 @@
 -- What is in hand, by the number that stands in the table's own row. Assumes nothing.
 use Prim.Native.Nat.{ℕ, _-_}
-use mathlib.Core.Path.{_≡_, refl}
+use mathlib.Core.Path.{_≡_}
 use mathlib.Core.List.{List}
-use borrow.Author.Tests.{eq-eqb, ne-eqb}
+use borrow.Author.Tests.{ne-eqb}
 use Rattle.sessions.specs.Find.{none, at}
 use Rattle.table_layout.specs.Layout.{number, handAt}
 use Rattle.table_sound.specs.Bytes.{handOf}

@@ -3,7 +3,6 @@ use Prim.Native.Nat.{ℕ, _+_, _-_, _≤_, _<_}
 use mathlib.Core.Path.{_≡_, refl, _∙_, ap, sym, subst}
 use mathlib.Core.Bool.{true, false}
 use mathlib.Core.List.{List}
-use native.Mathlib.Omega.{arith}
 use borrow.Author.Tests.{eq-eqb, ne-eqb}
 use Rattle.counts.specs.Refusals.{nothingUnanswered, unsound, refusal}
 use Rattle.counts.specs.Result.{done}
@@ -12,11 +11,9 @@ use Rattle.sessions.proofs.Laws.{refused≢done}
 use Rattle.sessions.proofs.Loops.{found-at, found-none, find-at}
 use Rattle.sessions.specs.Find.{Found, none, at, orNone, find}
 use Rattle.sessions.specs.Table.{isWaiting, turn, given, takeNext, takeHand, takeUp}
-use Rattle.table_layout.specs.Layout.{number, maxAt, markAt, handAt, putNumber, tableOf, headOf}
+use Rattle.table_layout.specs.Layout.{number, maxAt, markAt, handAt, putNumber, headOf}
 use Rattle.table_layout.specs.declared.Head.{Head}
-use Rattle.table_layout.specs.declared.Table.{Table}
-use Rattle.table_search.proofs.Sounds.{waits, hand-waits, sound-limited}
-use Rattle.table_search.specs.Limited.{turnOf}
+use Rattle.table_search.proofs.Sounds.{waits, hand-waits}
 use Rattle.table_sound.proofs.Slots.{answers-held}
 use Rattle.table_sound.specs.Bytes.{slotOf, abs, soundBytes}
 use Rattle.session_table.specs.Calls.{only, verdict, takingUp, takenBytes}

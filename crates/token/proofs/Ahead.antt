@@ -195,23 +195,24 @@ wider : (s : List ℕ) (i j a b : ℕ) → Onward s i j → Lies s j a b → Lie
 wider s i j a b o l = record { from = omega arith; ordered = l .ordered; to = omega arith }
 
 -- the same of a token that a caller has taken apart
-pub lies : (s : List ℕ) (i : ℕ) (r t : Token) → r ≡ nextToken s i → r ≡ t → Lies s i (startOf t) (endOf t)
+next-ahead : (s : List ℕ) (i : ℕ) (r t : Token) → r ≡ nextToken s i → r ≡ t → Ahead s (blankEnd false s i) t
 unfolding nextToken
-lies s i r t d e = rw (← e, d) (wider s i (blankEnd false s i) _ _ (onward s i) (lies-from (ahead s (blankEnd false s i))))
+next-ahead s i r t d e = rw (sym d ∙ e) at (ahead s (blankEnd false s i))
+
+pub lies : (s : List ℕ) (i : ℕ) (r t : Token) → r ≡ nextToken s i → r ≡ t → Lies s i (startOf t) (endOf t)
+lies s i r t d e = wider s i (blankEnd false s i) _ _ (onward s i) (lies-from (next-ahead s i r t d e))
 
 time-within : {s : List ℕ} {i a b : ℕ} → Ahead s i (Time a b) → b ≤ length s
 time-within (a-time r) = r .inside
 
 pub time-inside : (s : List ℕ) (i a b : ℕ) (r : Token) → r ≡ nextToken s i → r ≡ Time a b → b ≤ length s
-unfolding nextToken
-time-inside s i a b r d e = time-within (rw (sym d ∙ e) at (ahead s (blankEnd false s i)))
+time-inside s i a b r d e = time-within (next-ahead s i r (Time a b) d e)
 
 number-within : {s : List ℕ} {i a b : ℕ} → Ahead s i (Number a b) → Short s a b
 number-within (a-number r n) = record { ahead = r .ahead; inside = r .inside; short = n }
 
 pub number-inside : (s : List ℕ) (i a b : ℕ) (r : Token) → r ≡ nextToken s i → r ≡ Number a b → Short s a b
-unfolding nextToken
-number-inside s i a b r d e = number-within (rw (sym d ∙ e) at (ahead s (blankEnd false s i)))
+number-inside s i a b r d e = number-within (next-ahead s i r (Number a b) d e)
 
 -- a string's opening quote stands within the file
 pub text-inside : (s : List ℕ) (i : ℕ) → isTextAt s i ≡ true → i < length s

@@ -1,6 +1,5 @@
 use Rattle.session_table.specs.Paper.{paperAnswered}
-use native.Mathlib.Omega.{arith}
-use mathlib.Core.Path.{_∙_, ap, sym}
+use mathlib.Core.Path.{ap}
 use Rattle.table_layout.specs.Layout.{tableOf}
 use Rattle.table_search.proofs.Sounds.{sound-size}
 use Rattle.session_table.proofs.Answering.{answerable, answer-hand, answer-done, answer-leaves, in-hand, kind-fits}

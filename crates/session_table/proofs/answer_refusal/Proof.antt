@@ -1,4 +1,4 @@
-use mathlib.Core.Path.{_∙_, ap, sym}
+use mathlib.Core.Path.{_∙_, sym}
 use Rattle.session_table.proofs.Answering.{answer-0, answer-5, answer-7, answer-10, answer-13}
 use borrow.Author.Needs.{needs}
 use Rattle.session_table.proofs.answer_refusal.Statement.{statement}

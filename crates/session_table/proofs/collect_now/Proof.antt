@@ -1,9 +1,9 @@
 use lib.ListN.{length}
 use Rattle.sessions.proofs.Laws.{in-range}
 use native.Mathlib.Omega.{arith}
-use mathlib.Core.Path.{_∙_, ap, sym}
-use Rattle.table_search.proofs.Sounds.{sound-size, sound-limited}
-use Rattle.session_table.proofs.Collecting.{collectable, collect-below, collect-room, collect-done, collect-leaves, ready-stands, ready-few, ready-reply, ready-real, collects-is}
+use mathlib.Core.Path.{ap}
+use Rattle.table_search.proofs.Sounds.{sound-limited}
+use Rattle.session_table.proofs.Collecting.{collectable, collect-below, collect-room, ready-few, ready-reply, ready-real, collects-is}
 use borrow.Author.Needs.{needs}
 use Rattle.session_table.proofs.collect_now.Statement.{statement}
 use Rattle.session_table.proofs.collect_now.Tie as tie

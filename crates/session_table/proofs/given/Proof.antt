@@ -1,10 +1,9 @@
 use Rattle.session_table.specs.Paper.{paperTakenUp}
 use Rattle.session_table.proofs.Turns.{given-is}
 use native.Mathlib.Omega.{arith}
-use mathlib.Core.Path.{_∙_, ap, sym}
+use mathlib.Core.Path.{ap}
 use Rattle.table_layout.specs.Layout.{headOf}
 use Rattle.table_search.proofs.Sounds.{sound-size, waits}
-use borrow.Author.Needs.{needs}
 use Rattle.session_table.proofs.given.Statement.{statement}
 use Rattle.session_table.proofs.given.Tie as tie
 

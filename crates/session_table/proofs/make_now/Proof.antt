@@ -1,6 +1,6 @@
 use Rattle.session_table.specs.Paper.{paperMade}
 use lib.ListN.{length, length-replicate}
-use mathlib.Core.Path.{_∙_, ap, sym}
+use mathlib.Core.Path.{_∙_, ap}
 use Rattle.session_table.proofs.Making.{make-low, make-size, make-done, make-leaves}
 use borrow.Author.Needs.{needs}
 use Rattle.session_table.proofs.make_now.Statement.{statement}

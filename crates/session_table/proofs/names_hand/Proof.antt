@@ -1,5 +1,5 @@
 use native.Mathlib.Omega.{arith}
-use mathlib.Core.Path.{_∙_, ap, sym}
+use mathlib.Core.Path.{ap}
 use Rattle.table_layout.specs.Layout.{headOf, tableOf}
 use Rattle.table_search.proofs.Sounds.{sound-size}
 use Rattle.session_table.proofs.Answering.{names-none, in-hand, names-is}

@@ -3,7 +3,7 @@ use Rattle.table_layout.specs.Layout.{tableOf}
 use native.Mathlib.Omega.{arith}
 use Rattle.session_table.proofs.Placing.{placeable, place-below, place-done, place-leaves}
 use Rattle.table_search.proofs.Sounds.{sound-size, sound-limited}
-use mathlib.Core.Path.{_∙_, ap, sym}
+use mathlib.Core.Path.{ap}
 use borrow.Author.Needs.{needs}
 use Rattle.session_table.proofs.place_now.Statement.{statement}
 use Rattle.session_table.proofs.place_now.Tie as tie
