@@ -21,7 +21,7 @@ c_object() {
         "${CC:-cc}" -std=gnu99 -O3 -Wall -Wextra -Iinclude "$@" -c "$source" -o "$object"
         return
     fi
-    local headers=(-ffreestanding -nostdinc -isystem "$(clang -print-resource-dir)/include")
+    local headers=(-ffreestanding -nostdinc -isystem "$("${CC:-cc}" -print-file-name=include)")
     [ "${C_HEADERS:-}" = yes ] && headers+=(-isystem /usr/include -isystem "/usr/include/$(uname -m)-linux-gnu")
     "$c_kit/bin/clang" --target=x86_64-unknown-linux-gnu -std=gnu99 -O3 -fPIE "${headers[@]}" -Iinclude "$@" -c "$source" -o "$object"
 }
