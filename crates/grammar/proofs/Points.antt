@@ -12,11 +12,12 @@ use lib.ListN.{getD}
 use Rattle.grammar.specs.Grammar.{Class, Point, Edge, next, look, step, walk, isClass, isPoint, classNo, pointNo}
 use Rattle.grammar.specs.Grammar.Class.{JOB, RESPONSE, UPLOAD, DOWNLOAD, GETINFO, ABORT, REPORT, EVENT, START, ACTIVE, IMMEDIATE, reserved, name, TIME≥, number, date, unrealDate, time, unrealTime, string, operator, semicolon}
 use Rattle.grammar.specs.Grammar.Point.{first, between, statement, jobName, jobResponse, jobFile, moveFile, moveSource, moveStart, startKind, startTime, startDate, startOperator, startValue, infoFile, abortKind, abortName, ending, done, dead}
-use Rattle.grammar.specs.Productions.{Start, Move, Job, Other, Any, Ended}
+use Rattle.grammar.specs.Statement.{Statement}
+use Rattle.grammar.specs.Statement as read
+use Rattle.grammar.specs.Productions.{Placed, Is, Start, Source, Job, Other, Any, Ended, classes}
 use Rattle.grammar.specs.Productions.Value.{plain, digits, unreal-digits, quoted}
 use Rattle.grammar.specs.Productions.Start.{missing, immediate, at-time, at-time-on, when}
 use Rattle.grammar.specs.Productions.Source.{active, file, program}
-use Rattle.grammar.specs.Productions.Move.{move}
 use Rattle.grammar.specs.Productions.Job.{job}
 use Rattle.grammar.specs.Productions.Other.{upload, download, getinfo, abort-report, abort-event}
 use Rattle.grammar.specs.Productions.Any.{the-job, another}
@@ -84,76 +85,123 @@ class-below c = class-again c .1
 pub is-point : (p q : Point) → isPoint p q ≡ true → p ≡ q
 is-point p q e = sym (point-again p) ∙ ap pointOf {x = pointNo p} {y = pointNo q} (eqb-true _ _ e) ∙ point-again q
 
--- the productions, from each point on, up to the ;
-data Nothing : List Class → Type 0 where
+-- the productions, from each point on, up to the ;: whatever tokens of their classes stand before them, and whatever they read as
+data Nothing : List Placed → Type 0 where
   nothing : Nothing []
 
-abbrev Body : Point → List Class → Type 0
-Body first k = Job k
-Body between k = Other k
-Body statement k = Any k
-Body jobName k = Job (JOB ∷ k)
-Body jobResponse k = Job (JOB ∷ name ∷ k)
-Body jobFile k = Job (JOB ∷ name ∷ RESPONSE ∷ k)
+-- file spec, then a source, then an optional start clause
+data Move : List Placed → Type 0 where
+  move : {f t : Placed} {c : List Placed} {x : read.Source} {y : read.Start} → Is string f → Source t x → Start c y → Move (f ∷ t ∷ c)
+
+abbrev Before : Class → (Placed → Type 0) → Type 0
+Before c P = (t : Placed) → Is c t → P t
+
+abbrev Starts : List Placed → Type 0
+Starts k = (y : read.Start) × Start k y
+
+abbrev Jobs : List Placed → Type 0
+Jobs k = (x : Statement) × Job k x
+
+abbrev Further : List Placed → Type 0
+Further k = (x : Statement) × Other k x
+
+abbrev Whatever : List Placed → Type 0
+Whatever k = (x : Statement) × Any k x
+
+abbrev Body : Point → List Placed → Type 0
+Body first k = Jobs k
+Body between k = Further k
+Body statement k = Whatever k
+Body jobName k = Before JOB (λ j. Jobs (j ∷ k))
+Body jobResponse k = Before JOB (λ j. Before name (λ n. Jobs (j ∷ n ∷ k)))
+Body jobFile k = Before JOB (λ j. Before name (λ n. Before RESPONSE (λ r. Jobs (j ∷ n ∷ r ∷ k))))
 Body moveFile k = Move k
-Body moveSource k = Move (string ∷ k)
-Body moveStart k = Start k
-Body startKind k = Start (START ∷ k)
-Body startTime k = Start (START ∷ TIME≥ ∷ k)
-Body startDate k = Start (START ∷ TIME≥ ∷ time ∷ k)
-Body startOperator k = Start (START ∷ name ∷ k)
-Body startValue k = Start (START ∷ name ∷ operator ∷ k)
-Body infoFile k = Other (GETINFO ∷ k)
-Body abortKind k = Other (ABORT ∷ k)
-Body abortName k = Other (ABORT ∷ REPORT ∷ k) × Other (ABORT ∷ EVENT ∷ k)
+Body moveSource k = Before string (λ f. Move (f ∷ k))
+Body moveStart k = Starts k
+Body startKind k = Before START (λ s. Starts (s ∷ k))
+Body startTime k = Before START (λ s. Before TIME≥ (λ g. Starts (s ∷ g ∷ k)))
+Body startDate k = Before START (λ s. Before TIME≥ (λ g. Before time (λ t. Starts (s ∷ g ∷ t ∷ k))))
+Body startOperator k = Before START (λ s. Before name (λ n. Starts (s ∷ n ∷ k)))
+Body startValue k = Before START (λ s. Before name (λ n. Before operator (λ o. Starts (s ∷ n ∷ o ∷ k))))
+Body infoFile k = Before GETINFO (λ g. Further (g ∷ k))
+Body abortKind k = Before ABORT (λ a. Further (a ∷ k))
+Body abortName k = Before ABORT (λ a. Before REPORT (λ w. Further (a ∷ w ∷ k)) × Before EVENT (λ w. Further (a ∷ w ∷ k)))
 Body ending k = Nothing k
 Body done k = ⊥
 Body dead k = ⊥
 
 -- and with the ;
-abbrev Tail : Point → List Class → Type 0
-Tail q k = cond (isPoint q done) (Nothing k) (Ended (Body q) k)
+data Closed (B : List Placed → Type 0) : List Placed → Type 0 where
+  closed : {k : List Placed} (e : Placed) → B k → Is semicolon e → Closed B (k ++ (e ∷ []))
 
--- each edge puts its class in front
+abbrev Tail : Point → List Placed → Type 0
+Tail q k = cond (isPoint q done) (Nothing k) (Closed (Body q) k)
+
+-- each edge puts a token of its class in front
 abbrev Joins : Point → Edge → Type 0
-Joins q e = (k : List Class) → Tail (e .to) k → Tail q (e .class ∷ k)
+Joins q e = (t : Placed) → Is (e .class) t → (k : List Placed) → Tail (e .to) k → Tail q (t ∷ k)
 
 abbrev pub Each : (Edge → Type 0) → List Edge → Type 0
 Each P [] = Unit {0}
 Each P (e ∷ es) = P e × Each P es
 
-on : {B D : List Class → Type 0} {c : Class} → ((k : List Class) → B k → D (c ∷ k)) → (k : List Class) → Ended B k → Ended D (c ∷ k)
-on f k (ended {k = a} b) = ended (f a b)
+on : {B D : List Placed → Type 0} {c : Class} → ((t : Placed) → Is c t → (k : List Placed) → B k → D (t ∷ k)) → (t : Placed) → Is c t
+    → (k : List Placed) → Closed B k → Closed D (t ∷ k)
+on f t i k (closed {k = a} e b s) = closed e (f t i a b) s
 
-same : {D : List Class → Type 0} (c : Class) (k : List Class) → Ended (λ a. D (c ∷ a)) k → Ended D (c ∷ k)
-same c k (ended b) = ended b
+-- the last token before the ;, and the ;
+closes : {D : List Placed → Type 0} {c : Class} → ((t : Placed) → Is c t → D (t ∷ [])) → (t : Placed) → Is c t → (k : List Placed) → Closed Nothing k
+    → Closed D (t ∷ k)
+closes d t i k (closed e nothing s) = closed e (d t i) s
 
--- the last class before the ;, and the ;
-closes : {D : List Class → Type 0} {c : Class} → D (c ∷ []) → (k : List Class) → Ended Nothing k → Ended D (c ∷ k)
-closes d k (ended nothing) = ended d
+ends : {D : List Placed → Type 0} → D [] → (t : Placed) → Is semicolon t → (k : List Placed) → Nothing k → Closed D (t ∷ k)
+ends d t i k nothing = closed t d i
 
-ends : {D : List Class → Type 0} → D [] → (k : List Class) → Nothing k → Ended D (semicolon ∷ k)
-ends d k nothing = ended d
+uploads : (t : Placed) → Is UPLOAD t → (k : List Placed) → Move k → Further (t ∷ k)
+uploads t i k (move f s c) = (_, upload i f s c)
+
+downloads : (t : Placed) → Is DOWNLOAD t → (k : List Placed) → Move k → Further (t ∷ k)
+downloads t i k (move f s c) = (_, download i f s c)
+
+any-other : {k : List Placed} → Further k → Whatever k
+any-other (x, o) = (x, another o)
 
 edges : (q : Point) → Each (Joins q) (next q)
-edges first = (same JOB, tt)
-edges between = (on (λ k b. upload b), (on (λ k b. download b), (same GETINFO, (same ABORT, tt))))
+edges first = (on (λ t i k b. b t i), tt)
+edges between = (on uploads, (on downloads, (on (λ t i k b. b t i), (on (λ t i k b. b t i), tt))))
 edges statement =
-    (on (λ k b. the-job b), (on (λ k b. another (upload b)), (on (λ k b. another (download b)), (on (λ k b. another b), (on (λ k b. another b), tt)))))
-edges jobName = (same name, tt)
-edges jobResponse = (same RESPONSE, tt)
-edges jobFile = (closes job, tt)
-edges moveFile = (same string, tt)
-edges moveSource = (on (λ k s. move active s), (on (λ k s. move file s), (on (λ k s. move program s), tt)))
-edges moveStart = (same START, (ends missing, tt))
-edges startKind = (closes immediate, (same TIME≥, (same name, tt)))
-edges startTime = (same time, tt)
-edges startDate = (closes at-time-on, (ends at-time, tt))
-edges startOperator = (same operator, tt)
-edges startValue = (closes (when plain), (closes (when digits), (closes (when unreal-digits), (closes (when quoted), tt))))
-edges infoFile = (closes getinfo, tt)
-edges abortKind = (on (λ k b. b .0), (on (λ k b. b .1), tt))
-edges abortName = (closes (abort-report, abort-event), tt)
+    (
+      on (λ t i k b. (b t i .0, the-job (b t i .1))),
+      (
+        on (λ t i k b. any-other (uploads t i k b)),
+        (on (λ t i k b. any-other (downloads t i k b)), (on (λ t i k b. any-other (b t i)), (on (λ t i k b. any-other (b t i)), tt))),
+      ),
+    )
+edges jobName = (on (λ n i k b j h. b j h n i), tt)
+edges jobResponse = (on (λ r i k b j h n g. b j h n g r i), tt)
+edges jobFile = (closes (λ f i j h n g r e. (_, job h g e i)), tt)
+edges moveFile = (on (λ f i k b. b f i), tt)
+edges moveSource =
+    (
+      on (λ t i k b f h. move h (active i) (b .1)),
+      (on (λ t i k b f h. move h (file i) (b .1)), (on (λ t i k b f h. move h (program i) (b .1)), tt)),
+    )
+edges moveStart = (on (λ s i k b. b s i), (ends (_, missing), tt))
+edges startKind = (closes (λ t i s h. (_, immediate h i)), (on (λ t i k b s h. b s h t i), (on (λ t i k b s h. b s h t i), tt)))
+edges startTime = (on (λ t i k b s h g j. b s h g j t i), tt)
+edges startDate = (closes (λ d i s h g j t l. (_, at-time-on h j l i)), (ends (λ s h g j t l. (_, at-time h j l)), tt))
+edges startOperator = (on (λ o i k b s h n j. b s h n j o i), tt)
+edges startValue =
+    (
+      closes (λ v i s h n j o l. (_, when h j l (plain i))),
+      (
+        closes (λ v i s h n j o l. (_, when h j l (digits i))),
+        (closes (λ v i s h n j o l. (_, when h j l (unreal-digits i))), (closes (λ v i s h n j o l. (_, when h j l (quoted i))), tt)),
+      ),
+    )
+edges infoFile = (closes (λ f i g h. (_, getinfo h i)), tt)
+edges abortKind = (on (λ w i k b a h. b a h .0 w i), (on (λ w i k b a h. b a h .1 w i), tt))
+edges abortName = (closes (λ n i a h. (λ w j. (_, abort-report h j i), λ w j. (_, abort-event h j i))), tt)
 edges ending = (ends nothing, tt)
 edges done = tt
 edges dead = tt
@@ -187,53 +235,61 @@ elsewhere q r k d l =
 tail-at : (q : Point) → q ≡ done → Tail q []
 tail-at q e = subst (λ (p : Point). Tail p []) (sym e) nothing
 
-tail : (k : List Class) (q : Point) → walk q k ≡ done → Tail q k
+tail : (k : List Placed) (q : Point) → walk q (classes k) ≡ done → Tail q k
 tail [] q w = tail-at q w
-tail (c ∷ k) q w = go (tail k (step q c) w) (along (Joins q) c (next q) (edges q))
+tail (t ∷ k) q w = go (tail k (step q (t .class)) w) (along (Joins q) (t .class) (next q) (edges q))
   where
-    go : Tail (step q c) k → (step q c ≡ dead) ⊎ Joins q (record { class = c; to = step q c }) → Tail q (c ∷ k)
-    go t (inl e) = absurd (dead≢done (sym (stays k) ∙ ap (λ (p : Point). walk p k) (sym e) ∙ w))
-    go t (inr f) = f k t
+    go : Tail (step q (t .class)) k → (step q (t .class) ≡ dead) ⊎ Joins q (record { class = t .class; to = step q (t .class) }) → Tail q (t ∷ k)
+    go r (inl e) = absurd (dead≢done (sym (stays (classes k)) ∙ ap (λ (p : Point). walk p (classes k)) (sym e) ∙ w))
+    go r (inr f) = f t refl k r
 
-pub walked-job : (k : List Class) → walk first k ≡ done → Ended Job k
-walked-job k w = tail k first w
+-- a production with its ;
+whole : {P : List Placed → Statement → Type 0} {k : List Placed} → Closed (λ a. (x : Statement) × P a x) k → (x : Statement) × Ended P k x
+whole (closed e b s) = (b .0, ended e (b .1) s)
 
-pub walked-other : (k : List Class) → walk between k ≡ done → Ended Other k
-walked-other k w = tail k between w
+pub walked-job : (k : List Placed) → walk first (classes k) ≡ done → (x : Statement) × Ended Job k x
+walked-job k w = whole (tail k first w)
 
-pub walked-any : (k : List Class) → walk statement k ≡ done → Ended Any k
-walked-any k w = tail k statement w
+pub walked-other : (k : List Placed) → walk between (classes k) ≡ done → (x : Statement) × Ended Other k x
+walked-other k w = whole (tail k between w)
+
+pub walked-any : (k : List Placed) → walk statement (classes k) ≡ done → (x : Statement) × Ended Any k x
+walked-any k w = whole (tail k statement w)
 
 -- the other way
-start-walks : {k : List Class} → Start k → walk moveStart (k ++ (semicolon ∷ [])) ≡ done
-start-walks missing = refl
-start-walks immediate = refl
-start-walks at-time = refl
-start-walks at-time-on = refl
-start-walks (when plain) = refl
-start-walks (when digits) = refl
-start-walks (when unreal-digits) = refl
-start-walks (when quoted) = refl
+start-walks : {c : List Placed} {y : read.Start} → Start c y → (e : Placed) → Is semicolon e → walk moveStart (classes (c ++ (e ∷ []))) ≡ done
+start-walks missing e z = rw z
+start-walks (immediate h i) e z = rw (h, i, z)
+start-walks (at-time h i j) e z = rw (h, i, j, z)
+start-walks (at-time-on h i j k) e z = rw (h, i, j, k, z)
+start-walks (when h i j (plain k)) e z = rw (h, i, j, k, z)
+start-walks (when h i j (digits k)) e z = rw (h, i, j, k, z)
+start-walks (when h i j (unreal-digits k)) e z = rw (h, i, j, k, z)
+start-walks (when h i j (quoted k)) e z = rw (h, i, j, k, z)
 
-move-walks : {k : List Class} → Move k → walk moveFile (k ++ (semicolon ∷ [])) ≡ done
-move-walks (move active s) = start-walks s
-move-walks (move file s) = start-walks s
-move-walks (move program s) = start-walks s
+source-walks : {t : Placed} {x : read.Source} → Source t x → step moveSource (t .class) ≡ moveStart
+source-walks (active i) = rw i
+source-walks (file i) = rw i
+source-walks (program i) = rw i
 
-pub other-walks : {k : List Class} → Ended Other k → walk between k ≡ done
-other-walks (ended (upload m)) = move-walks m
-other-walks (ended (download m)) = move-walks m
-other-walks (ended getinfo) = refl
-other-walks (ended abort-report) = refl
-other-walks (ended abort-event) = refl
+move-walks : (f : Placed) {t : Placed} {c : List Placed} {x : read.Source} {y : read.Start} → Is string f → Source t x → Start c y → (e : Placed)
+    → Is semicolon e → walk moveFile (classes (f ∷ t ∷ (c ++ (e ∷ [])))) ≡ done
+move-walks f {c = c} i s b e z = rw i (ap (λ (q : Point). walk q (classes (c ++ (e ∷ [])))) (source-walks s) ∙ start-walks b e z)
 
-pub job-walks : {k : List Class} → Ended Job k → walk first k ≡ done
-job-walks (ended job) = refl
+pub other-walks : {k : List Placed} {x : Statement} → Ended Other k x → walk between (classes k) ≡ done
+other-walks (ended e (upload {f = f} h i s c) z) = rw h (move-walks f i s c e z)
+other-walks (ended e (download {f = f} h i s c) z) = rw h (move-walks f i s c e z)
+other-walks (ended e (getinfo h i) z) = rw (h, i, z)
+other-walks (ended e (abort-report h i j) z) = rw (h, i, j, z)
+other-walks (ended e (abort-event h i j) z) = rw (h, i, j, z)
 
-pub any-walks : {k : List Class} → Ended Any k → walk statement k ≡ done
-any-walks (ended (the-job job)) = refl
-any-walks (ended (another (upload m))) = move-walks m
-any-walks (ended (another (download m))) = move-walks m
-any-walks (ended (another getinfo)) = refl
-any-walks (ended (another abort-report)) = refl
-any-walks (ended (another abort-event)) = refl
+pub job-walks : {k : List Placed} {x : Statement} → Ended Job k x → walk first (classes k) ≡ done
+job-walks (ended e (job h i j l) z) = rw (h, i, j, l, z)
+
+pub any-walks : {k : List Placed} {x : Statement} → Ended Any k x → walk statement (classes k) ≡ done
+any-walks (ended e (the-job (job h i j l)) z) = rw (h, i, j, l, z)
+any-walks (ended e (another (upload {f = f} h i s c)) z) = rw h (move-walks f i s c e z)
+any-walks (ended e (another (download {f = f} h i s c)) z) = rw h (move-walks f i s c e z)
+any-walks (ended e (another (getinfo h i)) z) = rw (h, i, z)
+any-walks (ended e (another (abort-report h i j)) z) = rw (h, i, j, z)
+any-walks (ended e (another (abort-event h i j)) z) = rw (h, i, j, z)

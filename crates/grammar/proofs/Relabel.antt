@@ -1,4 +1,4 @@
--- Whether tokens are a legal file depends on their classes alone, not on their places.
+-- Whether tokens are a legal file depends on their classes alone, not on their places or what they say.
 use mathlib.Core.Path.{_≡_, refl, _∙_, ap}
 use mathlib.Core.Bool.{Bool, true, false, cond}
 use mathlib.Core.List.{List, [], _∷_, _++_}
@@ -10,6 +10,7 @@ use Rattle.counts.specs.Limits.{statements}
 use Rattle.counts.specs.Refusals.{unexpected, notReal, tooManyStatements}
 use Rattle.grammar.specs.Grammar.{Point, step, isPoint, shape}
 use Rattle.grammar.specs.Grammar.Point.{done, dead}
+use Rattle.grammar.specs.Statement.{Statement}
 use Rattle.grammar.specs.Productions.{Placed, classes, File, Legal}
 use Rattle.grammar.specs.Productions.File.{file}
 use Rattle.grammar.specs.Reading.{State, turn, opening, begin, move, moves}
@@ -67,9 +68,9 @@ moves-alike (t ∷ ts) (u ∷ us) e a =
 whole : {os : List ℕ} {s : State} → Alike (on done os) s → (rs : List ℕ) × s ≡ on done rs × length os ≡ length rs
 whole (both-on {rs = rs} l) = (rs, refl, l)
 
-at-least-one : {ts : List Placed} {os : List ℕ} → File ts os → (rs : List ℕ) → length os ≡ length rs → (o : ℕ) × (ps : List ℕ) × rs ≡ o ∷ ps
-at-least-one (file t a e r) [] l = absurd (omega arith)
-at-least-one (file t a e r) (o ∷ ps) l = (o, ps, refl)
+at-least-one : {ts : List Placed} {os : List ℕ} {xs : List Statement} → File ts os xs → (rs : List ℕ) → length os ≡ length rs → (o : ℕ) × (ps : List ℕ) × rs ≡ o ∷ ps
+at-least-one (file e r) [] l = absurd (omega arith)
+at-least-one (file e r) (o ∷ ps) l = (o, ps, refl)
 
 pub relabel : (ts us : List Placed) (os : List ℕ) → classes ts ≡ classes us → Legal ts os → (rs : List ℕ) × Legal us rs
 relabel ts us os e l =

@@ -13,6 +13,7 @@ use Rattle.counts.specs.Refusals.{noToken, unexpected, notReal, tooManyStatemen
 use Rattle.grammar.specs.Grammar.{Point, isClass, isPoint}
 use Rattle.grammar.specs.Grammar.Class.{date, unrealDate, time, unrealTime}
 use Rattle.grammar.specs.Grammar.Point.{done}
+use Rattle.grammar.specs.Statement.{Statement}
 use Rattle.grammar.specs.Productions.{Placed, File, Legal}
 use Rattle.grammar.specs.Productions.File.{file}
 use Rattle.grammar.specs.Reading.{State, Last, Answer, move, moves, atEnd, close, read}
@@ -119,8 +120,8 @@ module _ (a : List Placed) (t : Placed) (b : List Placed) (z : Last) (q : Point)
       (moves-append start a (t ∷ b) ∙ ap (λ (s : State). moves s (t ∷ b)) e ∙ ap (λ (s : State). moves s b) w ∙ moves-wrong n p b)
 
 -- a legal file has a statement
-has-one : {ts : List Placed} {os : List ℕ} → File ts os → (o : ℕ) × (rs : List ℕ) × os ≡ o ∷ rs
-has-one (file t a {os = os} e r) = (t .place, os, refl)
+has-one : {ts : List Placed} {os : List ℕ} {xs : List Statement} → File ts os xs → (o : ℕ) × (rs : List ℕ) × os ≡ o ∷ rs
+has-one (file {t = t} {os = os} e r) = (t .place, os, refl)
 
 not-empty : (ts : List Placed) (q : Point) → moves start ts ≡ on q [] → (os : List ℕ) → ¬ Legal ts os
 not-empty ts q e os l =
@@ -221,7 +222,7 @@ one-verdict a b = sym (says-reader a) ∙ says-reader b
 pub five-unreal : (a : List Placed) (t : Placed) → MayStand a (real t) → ¬ MayStand a t → (t .class ≡ unrealTime) ⊎ (t .class ≡ unrealDate)
 five-unreal a t may not = go (isClass (t .class) unrealTime) (isClass (t .class) unrealDate) refl refl may
   where
-    go : (x y : Bool) → isClass (t .class) unrealTime ≡ x → isClass (t .class) unrealDate ≡ y → MayStand a (record { class = cond x time (cond y date (t .class)); place = t .place }) → (t .class ≡ unrealTime) ⊎ (t .class ≡ unrealDate)
+    go : (x y : Bool) → isClass (t .class) unrealTime ≡ x → isClass (t .class) unrealDate ≡ y → MayStand a (record { class = cond x time (cond y date (t .class)); place = t .place; end = t .end; said = t .said }) → (t .class ≡ unrealTime) ⊎ (t .class ≡ unrealDate)
     go true y e f m = inl (is-class (t .class) unrealTime e)
     go false true e f m = inr (is-class (t .class) unrealDate f)
     go false false e f m = absurd (not m)

@@ -5,7 +5,7 @@ use mathlib.Core.Bool.{false}
 use Prim.Native.Nat.{ℕ}
 use Rattle.grammar.specs.Grammar.{Class, Point, isPoint, walk}
 use Rattle.grammar.specs.Grammar.Point.{first, done, dead}
-use Rattle.grammar.specs.Productions.{Placed, classes, Begins}
+use Rattle.grammar.specs.Productions.{unsaid, Placed, classes, Begins}
 use Rattle.grammar.specs.Reading.{State, move, moves}
 use Rattle.grammar.specs.Reading.State.{on, wrong}
 use Rattle.grammar.specs.Rows.{MayStand}
@@ -19,7 +19,7 @@ start = on done []
 
 abbrev placed : List Class → List Placed
 placed [] = []
-placed (c ∷ cs) = record { class = c; place = 0 } ∷ placed cs
+placed (c ∷ cs) = record { class = c; place = 0; end = 0; said = unsaid } ∷ placed cs
 
 its-classes : (k : List Class) → classes (placed k) ≡ k
 its-classes [] = refl

@@ -1,79 +1,107 @@
--- The productions of document 01 as they stand there, over the classes of tokens; and the files that they make, over tokens with places.
+-- The productions of document 01 as they stand there: each takes tokens, and gives what they read as.
 use Prim.Native.Nat.{ℕ, _≤_}
+use mathlib.Core.Path.{_≡_}
 use mathlib.Core.List.{List, [], _∷_, _++_}
+use lib.IntN.{pos}
 use lib.ListN.{length}
 use Rattle.counts.specs.Limits.{statements}
 use Rattle.grammar.specs.Grammar.{Class}
 use Rattle.grammar.specs.Grammar.Class.{JOB, RESPONSE, UPLOAD, DOWNLOAD, GETINFO, ABORT, REPORT, EVENT, START, ACTIVE, IMMEDIATE, name, TIME≥, number, date, unrealDate, time, string, operator, semicolon}
+use Rattle.grammar.specs.Statement as read
+use Rattle.grammar.specs.Statement.{Statement}
 
--- number or string (eight digits are a number too, a real date or not)
-pub data Value : Class → Type 0 where
-  plain : Value number
-  digits : Value date
-  unreal-digits : Value unrealDate
-  quoted : Value string
+-- What a token says beside its class: a time as hhmmss or a date as yyyymmdd; what a number reads as; which operator it is.
+pub record Said : Type 0 where
+  pub moment : ℕ
+  pub number : read.Number
+  pub operator : read.Operator
 
--- A start clause is one of three, or missing: START IMMEDIATE; START TIME>= time with an optional date; START name, operator, then
--- number or string.
-pub data Start : List Class → Type 0 where
-  missing : Start []
-  immediate : Start (START ∷ IMMEDIATE ∷ [])
-  at-time : Start (START ∷ TIME≥ ∷ time ∷ [])
-  at-time-on : Start (START ∷ TIME≥ ∷ time ∷ date ∷ [])
-  when : {v : Class} → Value v → Start (START ∷ name ∷ operator ∷ v ∷ [])
+-- what a token says that is no time, number or operator
+abbrev pub unsaid : Said
+unsaid = record { moment = 0; number = record { mantissa = pos 0; scale = 0 }; operator = read.equal }
 
--- ACTIVE or a file spec or a name
-pub data Source : Class → Type 0 where
-  active : Source ACTIVE
-  file : Source string
-  program : Source name
-
--- file spec, then a source, then an optional start clause
-pub data Move : List Class → Type 0 where
-  move : {t : Class} {k : List Class} → Source t → Start k → Move (string ∷ t ∷ k)
-
--- JOB, name, RESPONSE, file spec.
-pub data Job : List Class → Type 0 where
-  job : Job (JOB ∷ name ∷ RESPONSE ∷ string ∷ [])
-
--- a statement that is no JOB
-pub data Other : List Class → Type 0 where
-  upload : {k : List Class} → Move k → Other (UPLOAD ∷ k)
-  download : {k : List Class} → Move k → Other (DOWNLOAD ∷ k)
-  getinfo : Other (GETINFO ∷ string ∷ [])
-  abort-report : Other (ABORT ∷ REPORT ∷ name ∷ [])
-  abort-event : Other (ABORT ∷ EVENT ∷ name ∷ [])
-
--- a statement of any kind
-pub data Any : List Class → Type 0 where
-  the-job : {k : List Class} → Job k → Any k
-  another : {k : List Class} → Other k → Any k
-
--- each ended by ;
-pub data Ended (Body : List Class → Type 0) : List Class → Type 0 where
-  ended : {k : List Class} → Body k → Ended Body (k ++ (semicolon ∷ []))
-
--- a token: its class, and the place of its first byte
+-- A token: its class, the place of its first byte, the place after its last, and what it says.
 pub record Placed : Type 0 where
   pub class : Class
   pub place : ℕ
+  pub end : ℕ
+  pub said : Said
+
+abbrev pub Is : Class → Placed → Type 0
+Is c t = t .class ≡ c
+
+abbrev pub nameAt : Placed → read.Name
+nameAt t = record { place = t .place; end = t .end }
+
+-- "number or string" (eight digits are a number too, a real date or not)
+pub data Value (t : Placed) : read.Value → Type 0 where
+  plain : Is number t → Value t (read.number (t .said .number))
+  digits : Is date t → Value t (read.number (t .said .number))
+  unreal-digits : Is unrealDate t → Value t (read.number (t .said .number))
+  quoted : Is string t → Value t (read.text (t .place))
+
+-- "A start clause is one of three: START IMMEDIATE; START `TIME>=` time with an optional date; START name, operator, then number or string.
+-- A missing clause reads as START IMMEDIATE".
+pub data Start : List Placed → read.Start → Type 0 where
+  missing : Start [] read.immediate
+  immediate : {k i : Placed} → Is START k → Is IMMEDIATE i → Start (k ∷ i ∷ []) read.immediate
+  at-time : {k g t : Placed} → Is START k → Is TIME≥ g → Is time t → Start (k ∷ g ∷ t ∷ []) (read.atTime (t .said .moment))
+  at-time-on : {k g t d : Placed} → Is START k → Is TIME≥ g → Is time t → Is date d
+      → Start (k ∷ g ∷ t ∷ d ∷ []) (read.atTimeOn (t .said .moment) (d .said .moment))
+  when : {k n o v : Placed} {x : read.Value} → Is START k → Is name n → Is operator o → Value v x
+      → Start (k ∷ n ∷ o ∷ v ∷ []) (read.when (nameAt n) (o .said .operator) x)
+
+-- "ACTIVE or a file spec or a name"
+pub data Source (t : Placed) : read.Source → Type 0 where
+  active : Is ACTIVE t → Source t read.active
+  file : Is string t → Source t (read.file (t .place))
+  program : Is name t → Source t (read.named (nameAt t))
+
+-- "JOB, name, RESPONSE, file spec."
+pub data Job : List Placed → Statement → Type 0 where
+  job : {k n r f : Placed} → Is JOB k → Is name n → Is RESPONSE r → Is string f → Job (k ∷ n ∷ r ∷ f ∷ []) (read.job (nameAt n) (f .place))
+
+-- a statement that is no JOB
+pub data Other : List Placed → Statement → Type 0 where
+  -- "UPLOAD or DOWNLOAD, file spec, then ACTIVE or a file spec or a name, then an optional start clause."
+  upload : {k f t : Placed} {c : List Placed} {x : read.Source} {y : read.Start} → Is UPLOAD k → Is string f → Source t x → Start c y
+      → Other (k ∷ f ∷ t ∷ c) (read.upload (f .place) x y)
+  download : {k f t : Placed} {c : List Placed} {x : read.Source} {y : read.Start} → Is DOWNLOAD k → Is string f → Source t x → Start c y
+      → Other (k ∷ f ∷ t ∷ c) (read.download (f .place) x y)
+  -- "GETINFO, file spec."
+  getinfo : {k f : Placed} → Is GETINFO k → Is string f → Other (k ∷ f ∷ []) (read.getinfo (f .place))
+  -- "ABORT, then REPORT or EVENT, then a name."
+  abort-report : {k w n : Placed} → Is ABORT k → Is REPORT w → Is name n → Other (k ∷ w ∷ n ∷ []) (read.abortReport (nameAt n))
+  abort-event : {k w n : Placed} → Is ABORT k → Is EVENT w → Is name n → Other (k ∷ w ∷ n ∷ []) (read.abortEvent (nameAt n))
+
+-- a statement of any kind
+pub data Any : List Placed → Statement → Type 0 where
+  the-job : {k : List Placed} {x : Statement} → Job k x → Any k x
+  another : {k : List Placed} {x : Statement} → Other k x → Any k x
+
+-- "each ended by `;`"
+pub data Ended (Body : List Placed → Statement → Type 0) : List Placed → Statement → Type 0 where
+  ended : {k : List Placed} {x : Statement} (e : Placed) → Body k x → Is semicolon e → Ended Body (k ++ (e ∷ [])) x
 
 abbrev pub classes : List Placed → List Class
 classes [] = []
 classes (t ∷ ts) = t .class ∷ classes ts
 
--- statements that are no JOB, with the places where they begin
-pub data Others : List Placed → List ℕ → Type 0 where
-  none : Others [] []
-  more : (t : Placed) (a : List Placed) {b : List Placed} {os : List ℕ} → Ended Other (t .class ∷ classes a) → Others b os → Others (t ∷ (a ++ b)) (t .place ∷ os)
+-- statements that are no JOB: the places where they begin, and what they read as
+pub data Others : List Placed → List ℕ → List Statement → Type 0 where
+  none : Others [] [] []
+  more : {t : Placed} {a b : List Placed} {x : Statement} {os : List ℕ} {xs : List Statement} → Ended Other (t ∷ a) x → Others b os xs
+      → Others (t ∷ (a ++ b)) (t .place ∷ os) (x ∷ xs)
 
--- a file, with the places where its statements begin: the first JOB and no other
-pub data File : List Placed → List ℕ → Type 0 where
-  file : (t : Placed) (a : List Placed) {b : List Placed} {os : List ℕ} → Ended Job (t .class ∷ classes a) → Others b os → File (t ∷ (a ++ b)) (t .place ∷ os)
+-- a file: "the first JOB and no other"
+pub data File : List Placed → List ℕ → List Statement → Type 0 where
+  file : {t : Placed} {a b : List Placed} {x : Statement} {os : List ℕ} {xs : List Statement} → Ended Job (t ∷ a) x → Others b os xs
+      → File (t ∷ (a ++ b)) (t .place ∷ os) (x ∷ xs)
 
--- A file is 1 to 64 statements: `Legal ts os` says that the tokens ts are a legal file whose statements begin at os.
+-- "A file is 1 to 64 statements": the tokens ts are a legal file whose statements begin at os.
 pub record Legal (ts : List Placed) (os : List ℕ) : Type 0 where
-  pub file : File ts os
+  pub reads : List Statement
+  pub file : File ts os reads
   pub few : length os ≤ statements
 
 -- some legal file begins with the tokens a

@@ -18,7 +18,7 @@ MayStand a t = Begins (a ++ (t ∷ []))
 
 -- the same token, but a real time or date
 abbrev pub real : Placed → Placed
-real t = record { class = shape (t .class); place = t .place }
+real t = record { class = shape (t .class); place = t .place; end = t .end; said = t .said }
 
 -- 64 whole statements
 abbrev pub Full : List Placed → Type 0

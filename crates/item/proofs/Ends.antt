@@ -26,7 +26,7 @@ end-place s i p l e =
 ends : {s : List ℕ} {i : ℕ} {ts : List Placed} {z : Last} → Tokens s i ts z → i ≤ length s → (p : ℕ) → z ≡ end p → p ≡ length s
 ends {s} {i} (at-end {p = q} e) l p z = let d : q ≡ p = cc in rw (← d) (end-place s i q l e)
 ends (no-token {p = q} e) l p z = let y : _≡_ {A = ℕ} 0 1 = cc in absurd (omega arith)
-ends {s} {i} (then {b = b} {t = t} e r) l p z = ends r (ahead s i t b e .1 .inside) p z
+ends {s} {i} (then {t = t} e r) l p z = ends r (ahead s i t e .1 .inside) p z
 
 pub end-is-length : (s : List ℕ) (p : ℕ) → line s .last ≡ end p → p ≡ length s
 end-is-length s p e = ends (line-tokens s) (omega arith) p e

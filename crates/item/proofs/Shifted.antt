@@ -28,7 +28,7 @@ up (Sign o a b) = Sign o (suc a) (suc b)
 up (Semicolon a b) = Semicolon (suc a) (suc b)
 
 abbrev pub upItem : Next → Next
-upItem (item t b) = at (t .class) (suc (t .place)) (suc b)
+upItem (item t) = at (t .class) (suc (t .place)) (suc (t .end)) (t .said)
 upItem (ended p) = ended (suc p)
 upItem (none p) = none (suc p)
 
@@ -111,7 +111,7 @@ module _ (x : ℕ) (v : List ℕ) where
   item-up (Fault w p) = refl
   item-up (Word a b) = rw word-class-up
   item-up (TimeGe a b) = refl
-  item-up (Number a b) = rw number-class-up
+  item-up (Number a b) = simp (number-class-up, date-up, suc-sub-suc, part-up)
   item-up (Time a b) = rw time-up
   item-up (Text a b) = refl
   item-up (Sign o a b) = refl

@@ -20,7 +20,7 @@ use Rattle.item.proofs.Shifted.{up, next-up, part-up, word-class-up, nu
 
 -- an item's numbers are those of what stands next
 pub data Shows (t : Item) : Next → Type 0 where
-  a-token : {u : Placed} {b : ℕ} → t .class ≡ classNo (u .class) → t .place ≡ u .place → t .next ≡ b → Shows t (item u b)
+  a-token : {u : Placed} → t .class ≡ classNo (u .class) → t .place ≡ u .place → t .next ≡ u .end → Shows t (item u)
   the-end : {p : ℕ} → t .class ≡ endNo → t .place ≡ p → Shows t (ended p)
   no-token : {p : ℕ} → t .class ≡ noneNo → t .place ≡ p → Shows t (none p)
 

@@ -21,7 +21,7 @@ use Rattle.grammar.specs.Grammar.{Class}
 use Rattle.grammar.specs.Grammar.Class.{JOB, RESPONSE, UPLOAD, DOWNLOAD, GETINFO, ABORT, REPORT, EVENT, START, ACTIVE, IMMEDIATE, reserved, name, TIME≥, number, date, unrealDate, time, unrealTime, string, operator, semicolon}
 use Rattle.grammar.specs.Reading.{Last}
 use Rattle.grammar.specs.Reading.Last.{end, broken}
-use Rattle.grammar.specs.Productions.{Placed, classes, Legal, Begins}
+use Rattle.grammar.specs.Productions.{Said, Placed, classes, Legal, Begins}
 use Rattle.grammar.proofs.Relabel.{relabel}
 use Rattle.item.specs.Tokens.{at, wordClass, clauseClass, abortClass, numberClass, timeNumber, itemOf, nextItem, Tokens}
 use Rattle.item.specs.Tokens.Next.{item, ended}
@@ -38,9 +38,9 @@ pub record Spelled (s : List ℕ) (i : ℕ) (cs : List Class) : Type 0 where
 at-the-end : (s : List ℕ) (i p : ℕ) → nextItem s i ≡ ended p → Spelled s i []
 at-the-end s i p e = record { tokens = []; place = p; read = at-end e; are = refl }
 
-first-is : (s : List ℕ) (i : ℕ) (c : Class) (p b : ℕ) (cs : List Class) → nextItem s i ≡ at c p b → Spelled s b cs → Spelled s i (c ∷ cs)
-first-is s i c p b cs e r =
-    record { tokens = record { class = c; place = p } ∷ r .tokens; place = r .place; read = then e (r .read); are = ap (λ (x : List Class). c ∷ x) (r .are) }
+first-is : (s : List ℕ) (i : ℕ) (c : Class) (p b : ℕ) (x : Said) (cs : List Class) → nextItem s i ≡ at c p b x → Spelled s b cs → Spelled s i (c ∷ cs)
+first-is s i c p b x cs e r =
+    record { tokens = record { class = c; place = p; end = b; said = x } ∷ r .tokens; place = r .place; read = then e (r .read); are = ap (λ (k : List Class). c ∷ k) (r .are) }
 
 broken≢end : {p q : ℕ} → broken p ≡ end q → ⊥
 broken≢end e = let z : _≡_ {A = ℕ} 0 1 = cc in omega arith
@@ -49,8 +49,8 @@ broken≢end e = let z : _≡_ {A = ℕ} 0 1 = cc in omega arith
 tokens-up : (x : ℕ) {v : List ℕ} {i : ℕ} {ts : List Placed} {z : Last} → Tokens v i ts z → (p : ℕ) → z ≡ end p → Spelled (x ∷ v) (suc i) (classes ts)
 tokens-up x {v} {i} (at-end {p = q} e) p z = at-the-end (x ∷ v) (suc i) (suc q) (next-item-up x v i (ended q) e)
 tokens-up x (no-token e) p z = absurd (broken≢end z)
-tokens-up x {v} {i} (then {b = b} {t = t} {ts = ts} e r) p z =
-    first-is (x ∷ v) (suc i) (t .class) (suc (t .place)) (suc b) (classes ts) (next-item-up x v i (item t b) e) (tokens-up x r p z)
+tokens-up x {v} {i} (then {t = t} {ts = ts} e r) p z =
+    first-is (x ∷ v) (suc i) (t .class) (suc (t .place)) (suc (t .end)) (t .said) (classes ts) (next-item-up x v i (item t) e) (tokens-up x r p z)
 
 spelled-up : (x : ℕ) (v : List ℕ) (i : ℕ) (cs : List Class) → Spelled v i cs → Spelled (x ∷ v) (suc i) cs
 spelled-up x v i cs r = subst (Spelled (x ∷ v) (suc i)) (r .are) (tokens-up x (r .read) (r .place) refl)
@@ -105,38 +105,38 @@ in-file s i l = rw (lt-ltb _ _ l)
 -- the blank before it is passed over, and then the spelling is a token of its class
 first-token : (c : Class) (r : List ℕ)
     → (blankEnd false (32 ∷ (spell c ++ (32 ∷ r))) 0 ≡ 1)
-    × (itemOf (32 ∷ (spell c ++ (32 ∷ r))) (tokenIn (32 ∷ (spell c ++ (32 ∷ r))) 1) ≡ at c 1 (suc (length (spell c))))
+    × ((x : Said) × itemOf (32 ∷ (spell c ++ (32 ∷ r))) (tokenIn (32 ∷ (spell c ++ (32 ∷ r))) 1) ≡ at c 1 (suc (length (spell c))) x)
 unfolding tokenIn itemOf wordClass clauseClass abortClass numberClass timeNumber digitsRead value isDigitByte allDigits part realDate realTime monthLength februaryLength wordAt textAt isTimeAt isNumberAt shapedAt numericAt signAt run runEnd same hasAt blankEnd blank
-first-token JOB r = (refl, refl)
-first-token RESPONSE r = (refl, refl)
-first-token UPLOAD r = (refl, refl)
-first-token DOWNLOAD r = (refl, refl)
-first-token GETINFO r = (refl, refl)
-first-token ABORT r = (refl, refl)
-first-token REPORT r = (refl, refl)
-first-token EVENT r = (refl, refl)
-first-token START r = (refl, refl)
-first-token ACTIVE r = (refl, refl)
-first-token IMMEDIATE r = (refl, refl)
-first-token reserved r = (refl, refl)
-first-token name r = (refl, refl)
-first-token TIME≥ r = (refl, refl)
-first-token number r = (refl, refl)
-first-token date r = (refl, refl)
-first-token unrealDate r = (refl, refl)
-first-token time r = (refl, refl)
-first-token unrealTime r = (refl, refl)
-first-token string r = (refl, refl)
-first-token operator r = (refl, refl)
-first-token semicolon r = (refl, refl)
+first-token JOB r = (refl, (_, refl))
+first-token RESPONSE r = (refl, (_, refl))
+first-token UPLOAD r = (refl, (_, refl))
+first-token DOWNLOAD r = (refl, (_, refl))
+first-token GETINFO r = (refl, (_, refl))
+first-token ABORT r = (refl, (_, refl))
+first-token REPORT r = (refl, (_, refl))
+first-token EVENT r = (refl, (_, refl))
+first-token START r = (refl, (_, refl))
+first-token ACTIVE r = (refl, (_, refl))
+first-token IMMEDIATE r = (refl, (_, refl))
+first-token reserved r = (refl, (_, refl))
+first-token name r = (refl, (_, refl))
+first-token TIME≥ r = (refl, (_, refl))
+first-token number r = (refl, (_, refl))
+first-token date r = (refl, (_, refl))
+first-token unrealDate r = (refl, (_, refl))
+first-token time r = (refl, (_, refl))
+first-token unrealTime r = (refl, (_, refl))
+first-token string r = (refl, (_, refl))
+first-token operator r = (refl, (_, refl))
+first-token semicolon r = (refl, (_, refl))
 
-first-item : (c : Class) (r : List ℕ) → nextItem (32 ∷ (spell c ++ (32 ∷ r))) 0 ≡ at c 1 (suc (length (spell c)))
+first-item : (c : Class) (r : List ℕ) → nextItem (32 ∷ (spell c ++ (32 ∷ r))) 0 ≡ at c 1 (suc (length (spell c))) (first-token c r .1 .0)
 unfolding nextItem nextToken
 first-item c r =
     let l : 1 < length (32 ∷ (spell c ++ (32 ∷ r))) = omega (arith, length-append (spell c) (32 ∷ r)) in
     ap (λ (i : ℕ). itemOf (32 ∷ (spell c ++ (32 ∷ r))) (tokenAt (32 ∷ (spell c ++ (32 ∷ r))) i)) (first-token c r .0)
     ∙ ap (itemOf (32 ∷ (spell c ++ (32 ∷ r)))) (in-file (32 ∷ (spell c ++ (32 ∷ r))) 1 l)
-    ∙ first-token c r .1
+    ∙ first-token c r .1 .1
 
 blank-file : nextItem (32 ∷ []) 0 ≡ ended 1
 unfolding nextItem nextToken tokenAt itemOf blankEnd blank
@@ -145,7 +145,7 @@ blank-file = refl
 pub spelled : (cs : List Class) → Spelled (text cs) 0 cs
 spelled [] = at-the-end (text []) 0 1 blank-file
 spelled (c ∷ cs) =
-    first-is (text (c ∷ cs)) 0 c 1 (suc (length (spell c))) cs (first-item c (rest cs))
+    first-is (text (c ∷ cs)) 0 c 1 (suc (length (spell c))) (first-token c (rest cs) .1 .0) cs (first-item c (rest cs))
     (spelled-after (32 ∷ spell c) (text cs) cs (spelled cs))
 
 -- Some legal file has tokens of the classes of a, and then others; the byte limit is put aside.

@@ -11,7 +11,7 @@ use Rattle.number.specs.Number.{numberOf}
 use Rattle.number.specs.declared.Number.{Number as NumberRead}
 use Rattle.token.specs.Token.{nextToken}
 use Rattle.token.specs.declared.Operator.{Operator}
-use Rattle.token.specs.declared.Operator.the-variants.{Equal, NotEqual, Above, Below, AtLeast, AtMost}
+use Rattle.token.specs.declared.Operator.the-variants.{Equal}
 use Rattle.token.specs.declared.Token.{Token}
 use Rattle.token.specs.declared.Token.the-variants.{End, Fault, Word, TimeGe, Number, Time, Text, Sign, Semicolon}
 use Rattle.grammar.specs.Grammar.{classNo}
@@ -26,34 +26,26 @@ endNo = 22
 abbrev pub noneNo : ℕ
 noneNo = 23
 
-abbrev pub operatorNo : Operator → ℕ
-operatorNo Equal = 0
-operatorNo NotEqual = 1
-operatorNo Above = 2
-operatorNo Below = 3
-operatorNo AtLeast = 4
-operatorNo AtMost = 5
-
 abbrev pub zero : NumberRead
 zero = record { mantissa = pos 0; scale = 0 }
 
--- a token of s from start to end, by its class, with a date's, a time's or an operator's number, and with what a number reads as
-abbrev pub madeOf : ℕ → ℕ → ℕ → ℕ → ℕ → NumberRead → Item
-madeOf base class start end value number =
-    record { class = class; place = base + start; length = end - start; next = base + end; value = value; number = number }
+-- a token of s from start to end, by its class, with a date's or a time's number, what a number reads as, and which operator it is
+abbrev pub madeOf : ℕ → ℕ → ℕ → ℕ → ℕ → NumberRead → Operator → Item
+madeOf base class start end value number sign =
+    record { class = class; place = base + start; length = end - start; next = base + end; value = value; number = number; operator = sign }
 
 abbrev pub made : ℕ → ℕ → ℕ → ℕ → ℕ → Item
-made base class start end value = madeOf base class start end value zero
+made base class start end value = madeOf base class start end value zero Equal
 
 unfoldable pub numbered : ℕ → List ℕ → Token → Item
 numbered base s (End p) = made base endNo p p 0
 numbered base s (Fault w p) = made base noneNo p p 0
 numbered base s (Word a b) = made base (classNo (wordClass s a b)) a b 0
 numbered base s (TimeGe a b) = made base (classNo TIME≥) a b 0
-numbered base s (Number a b) = madeOf base (classNo (numberClass s a b)) a b (dateNumber s a b) (numberOf (part s a (b - a)))
+numbered base s (Number a b) = madeOf base (classNo (numberClass s a b)) a b (dateNumber s a b) (numberOf (part s a (b - a))) Equal
 numbered base s (Time a b) = made base (classNo (timeClass s a)) a b (timeNumber s a)
 numbered base s (Text a b) = made base (classNo string) a b 0
-numbered base s (Sign o a b) = made base (classNo operator) a b (operatorNo o)
+numbered base s (Sign o a b) = madeOf base (classNo operator) a b 0 zero o
 numbered base s (Semicolon a b) = made base (classNo semicolon) a b 0
 
 -- the next token from the place at on

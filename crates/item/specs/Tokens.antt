@@ -1,4 +1,4 @@
--- The tokens of a job file as the grammar sees them: each with its class and its place (document 01, "Bytes and tokens", "The job grammar").
+-- The tokens of a job file as the grammar sees them: each with its class, its place and end, and what it says (document 01, "Bytes and tokens", "The job grammar").
 use Prim.Native.Nat.{ℕ, zero, suc, _+_, _-_, _*_}
 use mathlib.Core.Bool.{Bool, cond, _||_}
 use mathlib.Core.Path.{_≡_}
@@ -13,11 +13,16 @@ use Rattle.field.specs.Part.{part}
 use Rattle.field.specs.Bytes.{ascii}
 use Rattle.scan.specs.Run.{isWordAt}
 use Rattle.token.specs.Token.{nextToken}
+use Rattle.number.specs.Number.{numberOf}
+use Rattle.number.specs.declared.Number.{Number as NumberRead}
+use Rattle.token.specs.declared.Operator.{Operator}
+use Rattle.token.specs.declared.Operator.the-variants.{Equal, NotEqual, Above, Below, AtLeast, AtMost}
 use Rattle.token.specs.declared.Token.{Token}
 use Rattle.token.specs.declared.Token.the-variants.{End, Fault, Word, TimeGe, Number, Time, Text, Sign, Semicolon}
 use Rattle.grammar.specs.Grammar.{Class}
 use Rattle.grammar.specs.Grammar.Class.{JOB, RESPONSE, UPLOAD, DOWNLOAD, GETINFO, ABORT, REPORT, EVENT, START, ACTIVE, IMMEDIATE, reserved, name, TIME≥, number, date, unrealDate, time, unrealTime, string, operator, semicolon}
-use Rattle.grammar.specs.Productions.{Placed}
+use Rattle.grammar.specs.Statement as read
+use Rattle.grammar.specs.Productions.{Said, unsaid, Placed}
 use Rattle.grammar.specs.Reading.{Last}
 use Rattle.grammar.specs.Reading.Last.{end, broken}
 
@@ -75,24 +80,46 @@ timeNumber s a = twoAt s a * 10000 + twoAt s (a + 3) * 100 + twoAt s (a + 6)
 abbrev pub timeClass : List ℕ → ℕ → Class
 timeClass s a = cond (realTime (timeNumber s a)) time unrealTime
 
--- what stands next: a token and the place after it; the end of the file; no token
+-- the paper's value of what a number reads as, and of an operator
+abbrev pub paperNumber : NumberRead → read.Number
+paperNumber n = record { mantissa = n .mantissa; scale = n .scale }
+
+abbrev pub paperOperator : Operator → read.Operator
+paperOperator Equal = read.equal
+paperOperator NotEqual = read.notEqual
+paperOperator Above = read.above
+paperOperator Below = read.below
+paperOperator AtLeast = read.atLeast
+paperOperator AtMost = read.atMost
+
+-- what a time, a number and an operator say
+abbrev pub saysTime : ℕ → Said
+saysTime n = record { moment = n; number = unsaid .number; operator = unsaid .operator }
+
+abbrev pub saysNumber : ℕ → NumberRead → Said
+saysNumber n x = record { moment = n; number = paperNumber x; operator = unsaid .operator }
+
+abbrev pub saysOperator : Operator → Said
+saysOperator o = record { moment = unsaid .moment; number = unsaid .number; operator = paperOperator o }
+
+-- what stands next: a token; the end of the file; no token
 pub data Next : Type 0 where
-  item : Placed → ℕ → Next
+  item : Placed → Next
   ended none : ℕ → Next
 
-abbrev pub at : Class → ℕ → ℕ → Next
-at c a b = item (record { class = c; place = a }) b
+abbrev pub at : Class → ℕ → ℕ → Said → Next
+at c a b x = item (record { class = c; place = a; end = b; said = x })
 
 unfoldable pub itemOf : List ℕ → Token → Next
 itemOf s (End p) = ended p
 itemOf s (Fault w p) = none p
-itemOf s (Word a b) = at (wordClass s a b) a b
-itemOf s (TimeGe a b) = at TIME≥ a b
-itemOf s (Number a b) = at (numberClass s a b) a b
-itemOf s (Time a b) = at (timeClass s a) a b
-itemOf s (Text a b) = at string a b
-itemOf s (Sign o a b) = at operator a b
-itemOf s (Semicolon a b) = at semicolon a b
+itemOf s (Word a b) = at (wordClass s a b) a b unsaid
+itemOf s (TimeGe a b) = at TIME≥ a b unsaid
+itemOf s (Number a b) = at (numberClass s a b) a b (saysNumber (dateNumber s a b) (numberOf (part s a (b - a))))
+itemOf s (Time a b) = at (timeClass s a) a b (saysTime (timeNumber s a))
+itemOf s (Text a b) = at string a b unsaid
+itemOf s (Sign o a b) = at operator a b (saysOperator o)
+itemOf s (Semicolon a b) = at semicolon a b unsaid
 
 -- the next token from a place on
 unfoldable pub nextItem : List ℕ → ℕ → Next
@@ -102,9 +129,14 @@ nextItem s i = itemOf s (nextToken s i)
 pub data Tokens (s : List ℕ) : ℕ → List Placed → Last → Type 0 where
   at-end : {i p : ℕ} → nextItem s i ≡ ended p → Tokens s i [] (end p)
   no-token : {i p : ℕ} → nextItem s i ≡ none p → Tokens s i [] (broken p)
-  then : {i b : ℕ} {t : Placed} {ts : List Placed} {z : Last} → nextItem s i ≡ item t b → Tokens s b ts z → Tokens s i (t ∷ ts) z
+  then : {i : ℕ} {t : Placed} {ts : List Placed} {z : Last} → nextItem s i ≡ item t → Tokens s (t .end) ts z → Tokens s i (t ∷ ts) z
 
--- the same, computed; n bounds how many there are
+-- from the place i on the next tokens are a, and e is the place after the last of them
+pub data After (s : List ℕ) : ℕ → List Placed → ℕ → Type 0 where
+  here : {i : ℕ} → After s i [] i
+  then : {i e : ℕ} {t : Placed} {a : List Placed} → nextItem s i ≡ item t → After s (t .end) a e → After s i (t ∷ a) e
+
+-- the tokens of a file, computed; n bounds how many there are
 pub record Line : Type 0 where
   pub tokens : List Placed
   pub last : Last
@@ -112,12 +144,15 @@ pub record Line : Type 0 where
 abbrev pub lineOn : Next → (ℕ → Line) → Line
 lineOn (ended p) k = record { tokens = []; last = end p }
 lineOn (none p) k = record { tokens = []; last = broken p }
-lineOn (item t b) k = let r = k b in record { tokens = t ∷ r .tokens; last = r .last }
+lineOn (item t) k = let r = k (t .end) in record { tokens = t ∷ r .tokens; last = r .last }
 
 unfoldable pub lineFrom : ℕ → List ℕ → ℕ → Line
 lineFrom zero s i = record { tokens = []; last = broken i }
 lineFrom (suc n) s i = lineOn (nextItem s i) (λ b. lineFrom n s b)
 
--- the tokens of a file, and what ends them
+-- the tokens of a file from a place on, and what ends them
+abbrev pub lineAt : List ℕ → ℕ → Line
+lineAt s i = lineFrom (suc (length s)) s i
+
 unfoldable pub line : List ℕ → Line
-line s = lineFrom (suc (length s)) s 0
+line s = lineAt s 0

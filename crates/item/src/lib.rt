@@ -18,7 +18,9 @@ ghost use Rattle.field.specs.Part.{part};
 ghost use Rattle.token.specs.Token.{Short};
 ghost use Rattle.number.specs.Number.{numberOf};
 ghost use Rattle.item.specs.Tokens.{isOther, abortClass, clauseClass, wordClass, numberClass, dateNumber, twoAt, timeClass, timeNumber};
-ghost use Rattle.item.specs.Items.{operatorNo, madeOf, made, Seen, Stood};
+ghost use Rattle.token.specs.declared.Operator.the-variants.{Equal};
+ghost use Rattle.grammar.specs.Grammar.Class.{operator as operatorClass};
+ghost use Rattle.item.specs.Items.{zero, madeOf, made, Seen, Stood};
 
 // The classes of tokens.
 
@@ -74,8 +76,8 @@ pub const END: u8 = 22;
 // no token
 pub const NONE: u8 = 23;
 
-// A token by its class: its first byte and the place after it, counted from the file's start; a date's, a time's or an operator's number; and
-// what a number reads as.
+// A token by its class: its first byte and the place after it, counted from the file's start; a date's or a time's number; what a number reads
+// as; and which operator it is.
 pub struct Item {
     pub class: u8,
     pub place: usize,
@@ -83,6 +85,7 @@ pub struct Item {
     pub next: usize,
     pub value: u32,
     pub number: Number,
+    pub operator: Operator,
 }
 
 // A reserved word that no production takes.
@@ -153,23 +156,18 @@ fn word_class(s: &[u8], a: usize, b: usize) -> u8
     clause_class(s, a, b)
 }
 
-fn operator_no(o: Operator) -> u32
-    ensures { λ r. ⌜ r ≡ operatorNo o ⌝ }
-{
-    match o {
-        Operator::Equal => 0,
-        Operator::NotEqual => 1,
-        Operator::Above => 2,
-        Operator::Below => 3,
-        Operator::AtLeast => 4,
-        Operator::AtMost => 5,
-    }
-}
-
 // An item of a class, from start to end of the bytes that begin at base.
-fn item_with(base: usize, class: u8, start: usize, end: usize, value: u32, number: Number) -> Item
+fn item_with(
+    base: usize,
+    class: u8,
+    start: usize,
+    end: usize,
+    value: u32,
+    number: Number,
+    operator: Operator,
+) -> Item
     requires { ⌜ (start ≤ end) × (base + end < 18446744073709551616) ⌝ }
-    ensures { λ r. ⌜ r ≡ madeOf base class start end value number ⌝ }
+    ensures { λ r. ⌜ r ≡ madeOf base class start end value number operator ⌝ }
 {
     Item {
         class,
@@ -178,10 +176,11 @@ fn item_with(base: usize, class: u8, start: usize, end: usize, value: u32, numbe
         next: base + end,
         value,
         number,
+        operator,
     }
 }
 
-// The same of a token that is no number.
+// The same of a token that is no number and no operator.
 fn item_of(base: usize, class: u8, start: usize, end: usize, value: u32) -> Item
     requires { ⌜ (start ≤ end) × (base + end < 18446744073709551616) ⌝ }
     ensures { λ r. ⌜ r ≡ made base class start end value ⌝ }
@@ -190,26 +189,38 @@ fn item_of(base: usize, class: u8, start: usize, end: usize, value: u32) -> Item
         mantissa: 0,
         scale: 0,
     };
-    item_with(base, class, start, end, value, number)
+    item_with(base, class, start, end, value, number, Operator::Equal)
+}
+
+// The same of an operator.
+fn sign_item(base: usize, start: usize, end: usize, operator: Operator) -> Item
+    requires { ⌜ (start ≤ end) × (base + end < 18446744073709551616) ⌝ }
+    ensures { λ r. ⌜ r ≡ madeOf base (classNo operatorClass) start end 0 zero operator ⌝ }
+{
+    let number = Number {
+        mantissa: 0,
+        scale: 0,
+    };
+    item_with(base, OPERATOR, start, end, 0, number, operator)
 }
 
 // The number from a to b: of eight bare digits it may be a date.
 fn number_item(s: &[u8], base: usize, a: usize, b: usize) -> Item
     requires { ⌜ Short (now s) a b × (base + b < 18446744073709551616) ⌝ }
-    ensures { λ r. ⌜ r ≡ madeOf base (classNo (numberClass (now (s .entry)) a b)) a b (dateNumber (now (s .entry)) a b) (numberOf (part (now (s .entry)) a (b - a))) ⌝ }
+    ensures { λ r. ⌜ r ≡ madeOf base (classNo (numberClass (now (s .entry)) a b)) a b (dateNumber (now (s .entry)) a b) (numberOf (part (now (s .entry)) a (b - a))) Equal ⌝ }
 {
     let number = number_at(s, a, b - a);
     if b - a == 8 {
         let DigitsRead::Value(n) = digits_at(s, a, 8) else {
-            return item_with(base, NUMBER, a, b, 0, number);
+            return item_with(base, NUMBER, a, b, 0, number, Operator::Equal);
         };
         let day = n as u32;
         if is_real_date(day) {
-            return item_with(base, DATE, a, b, day, number);
+            return item_with(base, DATE, a, b, day, number, Operator::Equal);
         }
-        return item_with(base, UNREAL_DATE, a, b, day, number);
+        return item_with(base, UNREAL_DATE, a, b, day, number, Operator::Equal);
     }
-    item_with(base, NUMBER, a, b, 0, number)
+    item_with(base, NUMBER, a, b, 0, number, Operator::Equal)
 }
 
 // The number of two digits at a.
@@ -251,7 +262,7 @@ pub fn next_item(s: &[u8], base: usize, at: usize) -> Item
             operator,
             start,
             end,
-        } => item_of(base, OPERATOR, start, end, operator_no(operator)),
+        } => sign_item(base, start, end, operator),
         Token::Semicolon { start, end } => item_of(base, SEMICOLON, start, end, 0),
     }
 }

@@ -13,7 +13,7 @@ use Rattle.counts.specs.Result.Result.{refused}
 use Rattle.grammar.specs.Grammar.{Class, classNo, isClass, isPoint, shape}
 use Rattle.grammar.specs.Grammar.Class.{JOB, date, unrealDate, time, unrealTime}
 use Rattle.grammar.specs.Grammar.Point.{done}
-use Rattle.grammar.specs.Productions.{Placed}
+use Rattle.grammar.specs.Productions.{Said, Placed}
 use Rattle.grammar.specs.Reading.{State, Last, Answer, opening, move, moves, atEnd, close, read}
 use Rattle.grammar.specs.Reading.State.{on, wrong}
 use Rattle.grammar.proofs.Moves.{moves-wrong}
@@ -64,14 +64,14 @@ not-job c e = go (isClass c unrealTime) (isClass c unrealDate)
     go false false = e
 
 -- at the start only JOB may stand, and later any statement but JOB: by the class
-opened : (s : List ℕ) (c : Class) (p b : ℕ)
-    → (stepPart (plain.onItem (plain.or JOB (plain.jobNameAt s) []) (at c p b)) ≡ cond (isClass c JOB) (anyOf s (at c p b)) (stopAt p))
-    × (stepPart (plain.onItem (plain.others s) (at c p b)) ≡ cond (isClass c JOB) (stopAt p) (anyOf s (at c p b)))
-opened s c p b = go (isClass c JOB) refl
+opened : (s : List ℕ) (c : Class) (p b : ℕ) (x : Said)
+    → (stepPart (plain.onItem (plain.or JOB (plain.jobNameAt s) []) (at c p b x)) ≡ cond (isClass c JOB) (anyOf s (at c p b x)) (stopAt p))
+    × (stepPart (plain.onItem (plain.others s) (at c p b x)) ≡ cond (isClass c JOB) (stopAt p) (anyOf s (at c p b x)))
+opened s c p b x = go (isClass c JOB) refl
   where
-    go : (x : Bool) → isClass c JOB ≡ x
-        → (stepPart (plain.onItem (plain.or JOB (plain.jobNameAt s) []) (at c p b)) ≡ cond (isClass c JOB) (anyOf s (at c p b)) (stopAt p))
-        × (stepPart (plain.onItem (plain.others s) (at c p b)) ≡ cond (isClass c JOB) (stopAt p) (anyOf s (at c p b)))
+    go : (y : Bool) → isClass c JOB ≡ y
+        → (stepPart (plain.onItem (plain.or JOB (plain.jobNameAt s) []) (at c p b x)) ≡ cond (isClass c JOB) (anyOf s (at c p b x)) (stopAt p))
+        × (stepPart (plain.onItem (plain.others s) (at c p b x)) ≡ cond (isClass c JOB) (stopAt p) (anyOf s (at c p b x)))
     go true e = rw (is-class c JOB e) (refl, refl)
     go false e = rw (e, not-job c e) (refl, refl)
 
@@ -99,8 +99,8 @@ module _ (s : List ℕ) where
   not-none : (t : Item) (c : Class) → t .class ≡ classNo c → eqb (t .class) noneNo ≡ false
   not-none t c e = ne-eqb (t .class) noneNo (λ x. omega (arith, class-below c))
 
-  full : (t : Item) (u : Placed) (b : ℕ) (os : List ℕ) (k : List ℕ → ℕ → Answer) → length os ≡ statements → Shows t (item u b) → onStep (stepOf s (length os) t) os (t .place) k ≡ refused tooManyStatements (u .place)
-  full t u b os k l (a-token c p n) =
+  full : (t : Item) (u : Placed) (os : List ℕ) (k : List ℕ → ℕ → Answer) → length os ≡ statements → Shows t (item u) → onStep (stepOf s (length os) t) os (t .place) k ≡ refused tooManyStatements (u .place)
+  full t u os k l (a-token c p n) =
       ap (λ (x : Step). onStep x os (t .place) k) (tested s (length os) t false false true _ (not-end t (u .class) c) (not-none t (u .class) c) (eq-eqb _ _ l) refl)
       ∙ ap (refused tooManyStatements) p
 
@@ -112,26 +112,26 @@ module _ (s : List ℕ) where
   stop-is : (t : Item) (p : ℕ) → t .place ≡ p → stop unexpected t ≡ stopAt p
   stop-is t p e = ap stopAt e
 
-  into : (os : List ℕ) (i : ℕ) (u : Placed) (b : ℕ) → nextItem s i ≡ item u b → Shows (itemAt 0 s i) (item u b) → stepInto s (length os) (itemAt 0 s i) ≡ stepPart (partAt s (opening os) i)
+  into : (os : List ℕ) (i : ℕ) (u : Placed) → nextItem s i ≡ item u → Shows (itemAt 0 s i) (item u) → stepInto s (length os) (itemAt 0 s i) ≡ stepPart (partAt s (opening os) i)
   unfolding stepInto plain.oneOf
-  into [] i u b e (a-token c p n) =
+  into [] i u e (a-token c p n) =
       ap (λ (z : Bool). cond z (stepRead (statementOf 0 s (itemAt 0 s i))) (stop unexpected (itemAt 0 s i))) (ap (λ (m : ℕ). eqb m (classNo JOB)) c)
-      ∙ ap₂ (cond (isClass (u .class) JOB)) (any-is i (item u b) e) (stop-is (itemAt 0 s i) (u .place) p)
-      ∙ sym (opened s (u .class) (u .place) b .0)
+      ∙ ap₂ (cond (isClass (u .class) JOB)) (any-is i (item u) e) (stop-is (itemAt 0 s i) (u .place) p)
+      ∙ sym (opened s (u .class) (u .place) (u .end) (u .said) .0)
       ∙ ap (λ (x : Next). stepPart (plain.onItem (plain.or JOB (plain.jobNameAt s) []) x)) (sym e)
-  into (o ∷ os) i u b e (a-token c p n) =
+  into (o ∷ os) i u e (a-token c p n) =
       rw (ne-eqb (length (o ∷ os)) 0 (λ z. omega arith))
       (ap (λ (z : Bool). cond z (stop unexpected (itemAt 0 s i)) (stepRead (statementOf 0 s (itemAt 0 s i)))) (ap (λ (m : ℕ). eqb m (classNo JOB)) c)
-      ∙ ap₂ (cond (isClass (u .class) JOB)) (stop-is (itemAt 0 s i) (u .place) p) (any-is i (item u b) e)
-      ∙ sym (opened s (u .class) (u .place) b .1)
+      ∙ ap₂ (cond (isClass (u .class) JOB)) (stop-is (itemAt 0 s i) (u .place) p) (any-is i (item u) e)
+      ∙ sym (opened s (u .class) (u .place) (u .end) (u .said) .1)
       ∙ ap (λ (x : Next). stepPart (plain.onItem (plain.others s) x)) (sym e))
 
-  one-step : (os : List ℕ) (i : ℕ) (u : Placed) (b : ℕ) → length os < statements → nextItem s i ≡ item u b → Shows (itemAt 0 s i) (item u b) → stepOf s (length os) (itemAt 0 s i) ≡ stepPart (partAt s (opening os) i)
-  one-step os i u b l e (a-token c p n) =
+  one-step : (os : List ℕ) (i : ℕ) (u : Placed) → length os < statements → nextItem s i ≡ item u → Shows (itemAt 0 s i) (item u) → stepOf s (length os) (itemAt 0 s i) ≡ stepPart (partAt s (opening os) i)
+  one-step os i u l e (a-token c p n) =
       tested s (length os) (itemAt 0 s i) false false false _ (not-end (itemAt 0 s i) (u .class) c) (not-none (itemAt 0 s i) (u .class) c) (ne-eqb (length os) statements (λ z. omega arith)) refl
-      ∙ into os i u b e (a-token c p n)
+      ∙ into os i u e (a-token c p n)
 
-  place-is : {t : Item} {u : Placed} {b : ℕ} → Shows t (item u b) → t .place ≡ u .place
+  place-is : {t : Item} {u : Placed} → Shows t (item u) → t .place ≡ u .place
   place-is (a-token c p n) = p
 
   opens : (os : List ℕ) → isPoint (opening os) done ≡ false
@@ -162,14 +162,14 @@ module _ (s : List ℕ) where
   unfolding jobLoop
   loop zero {i = i} (at-end {p = p} e) os n = at-the-end (itemAt 0 s i) p os (jobLoop s zero) (rw e at (shows s i))
   loop zero {i = i} (no-token {p = p} e) os n = at-no-token (itemAt 0 s i) p os (jobLoop s zero) (rw e at (shows s i))
-  loop zero {i = i} {z = z} (then {b = b} {t = t} {ts = ts} e r) os n =
-      full (itemAt 0 s i) t b os (jobLoop s zero) (omega arith) (rw e at (shows s i))
+  loop zero {i = i} {z = z} (then {t = t} {ts = ts} e r) os n =
+      full (itemAt 0 s i) t os (jobLoop s zero) (omega arith) (rw e at (shows s i))
       ∙ sym (ap (λ (x : State). close x z) (ap (λ (x : State). moves x ts) (too-many os t (omega arith)) ∙ moves-wrong tooManyStatements (t .place) ts))
   loop (suc left) {i = i} (at-end {p = p} e) os n = at-the-end (itemAt 0 s i) p os (jobLoop s (suc left)) (rw e at (shows s i))
   loop (suc left) {i = i} (no-token {p = p} e) os n = at-no-token (itemAt 0 s i) p os (jobLoop s (suc left)) (rw e at (shows s i))
-  loop (suc left) {i = i} {z = z} (then {b = b} {t = t} {ts = ts} e r) os n =
-      let h : Shows (itemAt 0 s i) (item t b) = rw e at (shows s i) in
-      ap₂ (λ (x : Step) (p : ℕ). onStep x os p (jobLoop s (suc left))) (one-step os i t b (omega arith) e h) (place-is h)
+  loop (suc left) {i = i} {z = z} (then {t = t} {ts = ts} e r) os n =
+      let h : Shows (itemAt 0 s i) (item t) = rw e at (shows s i) in
+      ap₂ (λ (x : Step) (p : ℕ). onStep x os p (jobLoop s (suc left))) (one-step os i t (omega arith) e h) (place-is h)
       ∙ goes-on left os t ts z n (λ c rest d. loop left d (os ++ (t .place ∷ [])) (count os (t .place) left n)) (partAt s (opening os) i) (part-reads s (then e r) (opening os) (os ++ (t .place ∷ [])))
 
   -- reading statement by statement gives the answer of the whole list

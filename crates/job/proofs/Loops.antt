@@ -56,7 +56,7 @@ none-stops s k t n c e = stop≢on (rw c at e)
 on-token : (s : List ℕ) (k at : ℕ) (t : Item) (n : ℕ) → stepOf s k t ≡ On n → (x : Next) → nextItem s at ≡ x → Shows t x → t .place < length s
 on-token s k at t n e x i (the-end c p) = absurd (ended-stops s k t n c e)
 on-token s k at t n e x i (no-token c p) = absurd (none-stops s k t n c e)
-on-token s k at t n e x i (a-token {u = u} {b = b} c p q) = subst (λ (m : ℕ). m < length s) (sym p) (inside s at u b i)
+on-token s k at t n e x i (a-token {u = u} c p q) = subst (λ (m : ℕ). m < length s) (sym p) (inside s at u i)
 
 module _ (s places : List ℕ) (k at : ℕ) (e : Answer) (inv : jobLoop s (statements + 1 - k) (take k places) at ≡ e) (few : k ≤ statements) (long : length places ≡ statements) (t : Item) (tok : t ≡ itemAt 0 s at) (r : Step) (is : r ≡ stepOf s k t) where
   turn : onStep r (take k places) (t .place) (jobLoop s (statements + 1 - (k + 1))) ≡ e

@@ -10,9 +10,11 @@ use Rattle.counts.specs.Refusals.{fileTooLong, outOfRange}
 use Rattle.counts.specs.Result.{Result}
 use Rattle.counts.specs.Result.Result.{refused, done}
 use Rattle.token.specs.Token.{isTextAt, contentAt}
+use Rattle.grammar.specs.Statement as read
 use Rattle.item.specs.Tokens.{nextItem}
 use Rattle.item.specs.Tokens.Next.{ended}
 use Rattle.item.specs.Items.{itemAt}
+use Rattle.statement.specs.Paper.{paperStatement}
 use Rattle.statement.specs.Statement.{statementOf}
 use Rattle.statement.specs.declared.Statement.{Statement}
 use Rattle.statement.specs.declared.StatementRead.{StatementRead}
@@ -52,9 +54,9 @@ statementSays (NotRead r) = refused (r .number) (r .place)
 abbrev pub textAt : List ℕ → ℕ → List ℕ
 textAt s quote = cond (isTextAt s quote) (contentAt s quote) []
 
--- From the place i on the file is statements that begin at os, one after the other with only blanks between them, "each ... read on its own
--- from the place where it begins"; and then its end.
-pub data Tiled (s : List ℕ) : ℕ → List ℕ → Type 0 where
-  over : {i p : ℕ} → nextItem s i ≡ ended p → Tiled s i []
-  tile : {i o e : ℕ} {x : Statement} {os : List ℕ} → nextItem s o ≡ nextItem s i → readStatement s o ≡ done (placed x o e) → Tiled s e os
-      → Tiled s i (o ∷ os)
+-- From the place i on the file is statements that begin at os and read as ys, one after the other with only blanks between them, "each ... read
+-- on its own from the place where it begins"; and then its end.
+pub data Tiled (s : List ℕ) : ℕ → List ℕ → List read.Statement → Type 0 where
+  over : {i p : ℕ} → nextItem s i ≡ ended p → Tiled s i [] []
+  tile : {i o e : ℕ} {x : Statement} {os : List ℕ} {ys : List read.Statement} → nextItem s o ≡ nextItem s i → readStatement s o ≡ done (placed x o e)
+      → Tiled s e os ys → Tiled s i (o ∷ os) (paperStatement x ∷ ys)

@@ -92,19 +92,19 @@ module _ (s : List ℕ) where
       go later false = later
 
   -- a token in a statement
-  abbrev pub turnPart : Point → Placed → ℕ → Part
-  turnPart q t b =
+  abbrev pub turnPart : Point → Placed → Part
+  turnPart q t =
       cond (isPoint (step q (t .class)) dead)
       (cond (isPoint (step q (shape (t .class))) dead) (stopped unexpected (t .place)) (stopped notReal (t .place)))
-      (partAt s (step q (t .class)) b)
+      (partAt s (step q (t .class)) (t .end))
 
-  pub on-token : (q : Point) → isPoint q done ≡ false → (i b : ℕ) (t : Placed) → nextItem s i ≡ item t b → partAt s q i ≡ turnPart q t b
+  pub on-token : (q : Point) → isPoint q done ≡ false → (i : ℕ) (t : Placed) → nextItem s i ≡ item t → partAt s q i ≡ turnPart q t
   unfolding oneOf
-  on-token q d i b t e =
+  on-token q d i t e =
       by-edges q d i
       ∙ ap (onItem (branches (next q))) e
-      ∙ pick-look (t .class) b (cond (has (shape (t .class)) (branches (next q))) (stopped notReal (t .place)) (stopped unexpected (t .place))) (next q) (lives q)
-      ∙ ap (λ (x : Part). cond (isPoint (step q (t .class)) dead) x (partAt s (step q (t .class)) b)) (rw (has-look (shape (t .class)) (next q) (lives q)) (swap (isPoint (step q (shape (t .class))) dead) (stopped notReal (t .place)) (stopped unexpected (t .place))))
+      ∙ pick-look (t .class) (t .end) (cond (has (shape (t .class)) (branches (next q))) (stopped notReal (t .place)) (stopped unexpected (t .place))) (next q) (lives q)
+      ∙ ap (λ (x : Part). cond (isPoint (step q (t .class)) dead) x (partAt s (step q (t .class)) (t .end))) (rw (has-look (shape (t .class)) (next q) (lives q)) (swap (isPoint (step q (shape (t .class))) dead) (stopped notReal (t .place)) (stopped unexpected (t .place))))
 
   pub on-end : (q : Point) → isPoint q done ≡ false → (i p : ℕ) → nextItem s i ≡ ended p → partAt s q i ≡ stopped unexpected p
   unfolding oneOf
@@ -125,11 +125,11 @@ module _ (s : List ℕ) where
   carry q r os l m z e (stopped n p) y = e ∙ y
 
   -- within a statement, at a token: t is refused here, or the rest is read from the next point
-  module _ (q : Point) (os : List ℕ) (t : Placed) (ts : List Placed) (z : Last) (b : ℕ) (d : isPoint q done ≡ false) (later : Reads (step q (t .class)) os ts z (partAt s (step q (t .class)) b)) where
-    at-token : (x y : Bool) → isPoint (step q (t .class)) dead ≡ x → isPoint (step q (shape (t .class))) dead ≡ y → Reads q os (t ∷ ts) z (cond x (cond y (stopped unexpected (t .place)) (stopped notReal (t .place))) (partAt s (step q (t .class)) b))
+  module _ (q : Point) (os : List ℕ) (t : Placed) (ts : List Placed) (z : Last) (d : isPoint q done ≡ false) (later : Reads (step q (t .class)) os ts z (partAt s (step q (t .class)) (t .end))) where
+    at-token : (x y : Bool) → isPoint (step q (t .class)) dead ≡ x → isPoint (step q (shape (t .class))) dead ≡ y → Reads q os (t ∷ ts) z (cond x (cond y (stopped unexpected (t .place)) (stopped notReal (t .place))) (partAt s (step q (t .class)) (t .end)))
     at-token true true e f = ap (λ (x : State). close x z) (ap (λ (x : State). moves x ts) (rw (d, e, f)) ∙ moves-wrong unexpected (t .place) ts)
     at-token true false e f = ap (λ (x : State). close x z) (ap (λ (x : State). moves x ts) (rw (d, e, f)) ∙ moves-wrong notReal (t .place) ts)
-    at-token false y e f = carry q (step q (t .class)) os (t ∷ ts) ts z (ap (λ (x : State). close (moves x ts) z) (rw (d, e))) (partAt s (step q (t .class)) b) later
+    at-token false y e f = carry q (step q (t .class)) os (t ∷ ts) ts z (ap (λ (x : State). close (moves x ts) z) (rw (d, e))) (partAt s (step q (t .class)) (t .end)) later
 
   open-end : (q : Point) (os : List ℕ) (p : ℕ) → isPoint q done ≡ false → atEnd q os p ≡ refused unexpected p
   open-end q [] p d = refl
@@ -150,8 +150,8 @@ module _ (s : List ℕ) where
       go : (b : Bool) → isPoint q done ≡ b → Reads q os [] (broken p) (partAt s q i)
       go true d = at-done q os i [] (broken p) d (no-token e)
       go false d = subst (Reads q os [] (broken p)) (sym (on-none q d i p e)) refl
-  part-reads {i} {ts = l} {z = z} (then {b = b} {t = t} {ts = ts} e r) q os = go (part-reads r (step q (t .class)) os) (isPoint q done) refl
+  part-reads {i} {ts = l} {z = z} (then {t = t} {ts = ts} e r) q os = go (part-reads r (step q (t .class)) os) (isPoint q done) refl
     where
-      go : Reads (step q (t .class)) os ts z (partAt s (step q (t .class)) b) → (x : Bool) → isPoint q done ≡ x → Reads q os (t ∷ ts) z (partAt s q i)
+      go : Reads (step q (t .class)) os ts z (partAt s (step q (t .class)) (t .end)) → (x : Bool) → isPoint q done ≡ x → Reads q os (t ∷ ts) z (partAt s q i)
       go later true d = at-done q os i (t ∷ ts) z d (then e r)
-      go later false d = subst (Reads q os (t ∷ ts) z) (sym (on-token q d i b t e)) (at-token q os t ts z b d later (isPoint (step q (t .class)) dead) (isPoint (step q (shape (t .class))) dead) refl refl)
+      go later false d = subst (Reads q os (t ∷ ts) z) (sym (on-token q d i t e)) (at-token q os t ts z d later (isPoint (step q (t .class)) dead) (isPoint (step q (shape (t .class))) dead) refl refl)

@@ -121,4 +121,4 @@ module _ (t : Item) (c : Class) (p b : ℕ) (ec : t .class ≡ classNo c) (ep : 
 pub on-alike : (bs : List values.Branch) (cs : List plain.Branch) → Alike bs cs → (t : Item) (x : Next) → Shows t x → forget (values.onItem bs t) ≡ plain.onItem cs x
 on-alike bs cs a t x (the-end {p = p} e q) = ap forget (no-class t endNo e end-foreign bs _ ∙ not-unreal t endNo e end-foreign bs) ∙ rw (e, q)
 on-alike bs cs a t x (no-token {p = p} e q) = ap forget (no-class t noneNo e none-foreign bs _ ∙ not-unreal t noneNo e none-foreign bs) ∙ rw (e, q)
-on-alike bs cs a t x (a-token {u = u} {b = b} e p n) = on-token t (u .class) (u .place) b e p n bs cs a (plain.has (u .class) cs) refl
+on-alike bs cs a t x (a-token {u = u} e p n) = on-token t (u .class) (u .place) (u .end) e p n bs cs a (plain.has (u .class) cs) refl

@@ -4,3 +4,4 @@ pub mod Bridge
 pub mod Forget
 pub mod Words
 pub mod From
+pub mod Readings

@@ -35,7 +35,7 @@ pick c b (x ∷ bs) r = cond (isClass c (x .class)) (x .go b) (pick c b bs r)
 abbrev pub onItem : List Branch → Next → Part
 onItem bs (ended p) = stopped unexpected p
 onItem bs (none p) = stopped noToken p
-onItem bs (item t b) = pick (t .class) b bs (cond (has (shape (t .class)) bs) (stopped notReal (t .place)) (stopped unexpected (t .place)))
+onItem bs (item t) = pick (t .class) (t .end) bs (cond (has (shape (t .class)) bs) (stopped notReal (t .place)) (stopped unexpected (t .place)))
 
 -- one of the classes must stand at i
 unfoldable pub oneOf : List ℕ → ℕ → List Branch → Part

@@ -6,7 +6,6 @@ use mathlib.Core.List.{List, [], _∷_}
 use lib.Dec.{eqb}
 use Rattle.counts.specs.Refusals.{noToken, unexpected, notReal, refusal}
 use Rattle.token.specs.declared.Operator.{Operator}
-use Rattle.token.specs.declared.Operator.the-variants.{Equal, NotEqual, Above, Below, AtLeast, AtMost}
 use Rattle.grammar.specs.Grammar.{Class, classNo, isClass}
 use Rattle.grammar.specs.Grammar.Class.{JOB, RESPONSE, UPLOAD, DOWNLOAD, GETINFO, ABORT, REPORT, EVENT, START, ACTIVE, IMMEDIATE, name, TIME≥, number, date, unrealDate, time, unrealTime, string, operator, semicolon}
 use Rattle.item.specs.Items.{noneNo, itemAt}
@@ -65,11 +64,6 @@ onItem bs t = pick t bs (otherwise t bs)
 abbrev pub partOf : Item → Part
 partOf t = record { place = t .place; length = t .length }
 
-abbrev pub operatorOf : ℕ → Operator
-operatorOf n =
-    cond (eqb n 0) Equal
-    (cond (eqb n 1) NotEqual (cond (eqb n 2) Above (cond (eqb n 3) Below (cond (eqb n 4) AtLeast AtMost))))
-
 -- a number, also of eight bare digits
 abbrev pub isNumberNo : ℕ → Bool
 isNumberNo c = eqb c (classNo number) || eqb c (classNo date) || eqb c (classNo unrealDate)
@@ -112,7 +106,7 @@ module _ (base : ℕ) (s : List ℕ) where
         (or number v (or date v (or unrealDate v (or string (λ t. ending (transferred m (condition n o (Text (t .place)))) (t .next)) []))))
 
     unfoldable pub startOperator : Part → ℕ → StatementRead
-    startOperator n at = oneOf at (or operator (λ t. startValue n (operatorOf (t .value)) (t .next)) [])
+    startOperator n at = oneOf at (or operator (λ t. startValue n (t .operator) (t .next)) [])
 
     unfoldable pub startDate : ℕ → ℕ → StatementRead
     startDate clock at =

@@ -31,7 +31,7 @@ use number::Number;
 use token::Operator;
 ghost use mathlib.Core.Path.{_≡_};
 ghost use Rattle.item.specs.Items.{Seen};
-ghost use Rattle.statement.specs.Statement.{no, unexpectedAt, partOf, operatorOf, condition, transferred, transfer, ending, jobFile, jobResponse, jobName, isNumberNo, startValue, startOperator, startDate, startTime, startKind, moveStart, moveSource, moveFile, infoFile, abortName, abortKind, statementOf};
+ghost use Rattle.statement.specs.Statement.{no, unexpectedAt, partOf, condition, transferred, transfer, ending, jobFile, jobResponse, jobName, isNumberNo, startValue, startOperator, startDate, startTime, startKind, moveStart, moveSource, moveFile, infoFile, abortName, abortKind, statementOf};
 
 // A part of the file: the place of its first byte, and its length. A name is held so.
 pub struct Part {
@@ -140,27 +140,6 @@ fn part_of(t: Item) -> Part
         place: t.place,
         length: t.length,
     }
-}
-
-fn operator_of(n: u32) -> Operator
-    ensures { λ r. ⌜ r ≡ operatorOf n ⌝ }
-{
-    if n == 0 {
-        return Operator::Equal;
-    }
-    if n == 1 {
-        return Operator::NotEqual;
-    }
-    if n == 2 {
-        return Operator::Above;
-    }
-    if n == 3 {
-        return Operator::Below;
-    }
-    if n == 4 {
-        return Operator::AtLeast;
-    }
-    Operator::AtMost
 }
 
 fn start_when(name: Part, operator: Operator, operand: Operand) -> Start
@@ -293,7 +272,8 @@ fn start_operator(s: &[u8], base: usize, at: usize, m: Transfer, name: Part) -> 
 {
     let t = next_item(s, base, at);
     if t.class == OPERATOR {
-        return start_value(s, base, t.next, m, name, operator_of(t.value));
+        let o = t.operator;
+        return start_value(s, base, t.next, m, name, o);
     }
     unexpected(t)
 }

@@ -61,17 +61,14 @@ item-of-requires-5 c κs = let l = lies _ _ _ _ (c .before .before .before .next
 enum-known-operator : tie.Need-enum-known-operator
 enum-known-operator c = search needs
 
-operator-no-requires : tie.Need-operator-no-requires
-operator-no-requires c κs = search needs
-
-item-of-requires-6 : tie.Need-item-of-requires-6
-item-of-requires-6 c κs = let l = lies _ _ _ _ (c .before .before .before .before .next-token .ensures) (c .before .before .operator .given .1) in omega arith
+sign-item-requires : tie.Need-sign-item-requires
+sign-item-requires c κs = let l = lies _ _ _ _ (c .before .before .before .next-token .ensures) (c .before .operator .given .1) in omega arith
 
 enum-known-start-6 : tie.Need-enum-known-start-6
 enum-known-start-6 c = search needs
 
-item-of-requires-7 : tie.Need-item-of-requires-7
-item-of-requires-7 c κs = let l = lies _ _ _ _ (c .before .before .before .next-token .ensures) (c .before .start6 .given .1) in omega arith
+item-of-requires-6 : tie.Need-item-of-requires-6
+item-of-requires-6 c κs = let l = lies _ _ _ _ (c .before .before .before .next-token .ensures) (c .before .start6 .given .1) in omega arith
 
 returns : tie.Need-returns
 unfolding numbered
@@ -103,11 +100,11 @@ returns-7 c = stood _ _ _ (c .before .before .before .before .before .before .pr
 
 returns-8 : tie.Need-returns-8
 unfolding numbered
-returns-8 c = stood _ _ _ (c .before .before .before .before .before .before .before .pre) _ _ (c .before .before .before .before .before .next-token .ensures) (c .before .before .before .operator .given .1) _ (rw (← c .before .operator-no .ensures) (c .item-of6 .ensures))
+returns-8 c = stood _ _ _ (c .before .before .before .before .before .before .pre) _ _ (c .before .before .before .before .next-token .ensures) (c .before .before .operator .given .1) _ (c .sign-item .ensures)
 
 returns-9 : tie.Need-returns-9
 unfolding numbered
-returns-9 c = stood _ _ _ (c .before .before .before .before .before .before .pre) _ _ (c .before .before .before .before .next-token .ensures) (c .before .before .start6 .given .1) _ (c .item-of7 .ensures)
+returns-9 c = stood _ _ _ (c .before .before .before .before .before .before .pre) _ _ (c .before .before .before .before .next-token .ensures) (c .before .before .start6 .given .1) _ (c .item-of6 .ensures)
 
 pub next-item-spec : {M : Type 1} → statement M
 next-item-spec =
@@ -131,10 +128,9 @@ next-item-spec =
     enum-known-start-5
     item-of-requires-5
     enum-known-operator
-    operator-no-requires
-    item-of-requires-6
+    sign-item-requires
     enum-known-start-6
-    item-of-requires-7
+    item-of-requires-6
     returns
     returns-2
     returns-3

@@ -8,15 +8,12 @@ use Rattle.statement.proofs.start_operator.Tie as tie
 next-item-requires : tie.Need-next-item-requires
 next-item-requires c κs = search needs
 
-operator-of-requires : tie.Need-operator-of-requires
-operator-of-requires c κs = search needs
-
 start-value-requires : tie.Need-start-value-requires
 start-value-requires c κs = search needs
 
 returns : tie.Need-returns
 unfolding startOperator oneOf
-returns c = rw (← c .before .before .before .before .next-item .ensures .is, ← c .before .operator-of .ensures) (search choose depth 9)
+returns c = rw (← c .before .before .before .next-item .ensures .is) (search choose depth 9)
 
 unexpected-requires : tie.Need-unexpected-requires
 unexpected-requires c κs = search needs
@@ -30,7 +27,6 @@ start-operator-spec =
     tie.close
     (tie.spec
     next-item-requires
-    operator-of-requires
     start-value-requires
     returns
     unexpected-requires
