@@ -17,11 +17,12 @@ use Rattle.grammar.proofs.Files.{walks, file-read, read-legal}
 abbrev pub start : State
 start = on done []
 
-abbrev placed : List Class → List Placed
+-- tokens of these classes
+abbrev pub placed : List Class → List Placed
 placed [] = []
 placed (c ∷ cs) = record { class = c; place = 0; end = 0; said = unsaid } ∷ placed cs
 
-its-classes : (k : List Class) → classes (placed k) ≡ k
+pub its-classes : (k : List Class) → classes (placed k) ≡ k
 its-classes [] = refl
 its-classes (c ∷ k) = ap (λ (l : List Class). c ∷ l) (its-classes k)
 

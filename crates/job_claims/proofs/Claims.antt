@@ -12,18 +12,20 @@ use lib.ListN.{length}
 use Rattle.counts.specs.Limits.{fileBytes}
 use Rattle.counts.specs.Refusals.{fileTooLong, tooFewPlaces, noToken, unexpected, notReal, tooManyStatements}
 use Rattle.counts.specs.Result.Result.{refused, done}
+use Rattle.grammar.specs.Statement.{Statement}
+use Rattle.grammar.specs.Productions.{File}
 use Rattle.grammar.specs.Reading.{Answer, read}
+use Rattle.grammar.specs.Reading.Last.{end}
 use Rattle.grammar.specs.Rows.{Three, FourToken, FourEnd, Five, Six, Says}
 use Rattle.grammar.specs.Rows.Says.{file, three, four-token, four-end, five, six}
 use Rattle.grammar.proofs.Verdicts.{reader-says, says-reader}
-use Rattle.item.specs.Tokens.{line}
+use Rattle.item.specs.Tokens.{Tokens, line}
 use Rattle.job.specs.Job.{onRoom, readJob}
 use Rattle.item.proofs.Lines.{line-tokens}
 use Rattle.item.proofs.Ends.{end-is-length}
 use Rattle.job.specs.Statement.{Tiled}
-use Rattle.job.proofs.Bridge.{by-statements}
 use Rattle.job_claims.proofs.Places.{broken-within, end-within, token-within}
-use Rattle.job_claims.proofs.Tiles.{tiles}
+use Rattle.job_claims.proofs.Tiles.{tiles, one-tiling}
 use Rattle.job_claims.specs.Verdict.{Verdict, Taken, Crowded}
 use Rattle.job_claims.specs.Verdict.Verdict.{too-long, broken, no-room, fits}
 
@@ -108,11 +110,26 @@ module _ (s : List ℕ) (room : ℕ) where
       from : Verdict s room (refused tooManyStatements p) → (length s ≤ fileBytes) × Six (line s .tokens) p
       from (broken l (six r)) = (l, r)
 
-  -- Each statement of a taken file is read on its own from its offset, and they tile the file.
-  pub statement-of-file : (os : List ℕ) → readJob s room ≡ done os → Tiled s 0 os
-  statement-of-file os e =
-      let t : Taken s room os = taken-exactly os .0 e in
-      tiles s (t .short) os (by-statements s (line-tokens s) ∙ says-reader (file (t .whole)))
+  -- Each statement of a taken file is read on its own from its offset: the list of statements is the one that the grammar gives, and they tile
+  -- the file.
+  pub statements-exactly : (os : List ℕ) → readJob s room ≡ done os → (ys : List Statement) → File (line s .tokens) os ys ↔ Tiled s 0 os ys
+  statements-exactly os e ys = (to, from)
+    where
+      t : Taken s room os
+      t = taken-exactly os .0 e
+
+      in-file : Tokens s 0 (line s .tokens) (end (t .whole .0))
+      in-file = subst (Tokens s 0 (line s .tokens)) (t .whole .1) (line-tokens s)
+
+      to : {xs : List Statement} → File (line s .tokens) os xs → Tiled s 0 os xs
+      to f = tiles s (t .short) f in-file
+
+      from : Tiled s 0 os ys → File (line s .tokens) os ys
+      from w = subst (File (line s .tokens) os) (one-tiling (to (t .whole .2 .file)) w) (t .whole .2 .file)
+
+  -- There is one such list.
+  pub one-reading : (os : List ℕ) → readJob s room ≡ done os → (xs ys : List Statement) → File (line s .tokens) os xs → File (line s .tokens) os ys → xs ≡ ys
+  one-reading os e xs ys f g = one-tiling (statements-exactly os e xs .0 f) (statements-exactly os e ys .0 g)
 
   -- The place of a refusal for the end of the file is the file's length.
   pub end-is-last : (p : ℕ) → FourEnd (line s .tokens) (line s .last) p → p ≡ length s

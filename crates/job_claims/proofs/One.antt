@@ -7,20 +7,22 @@ use native.Mathlib.Omega.{arith}
 use Rattle.counts.specs.Refusals.{noToken, unexpected, notReal}
 use Rattle.grammar.specs.Grammar.{Class, Point, step, walk, isPoint, shape}
 use Rattle.grammar.specs.Grammar.Point.{statement, done, dead}
-use Rattle.grammar.specs.Productions.{Placed, classes}
+use Rattle.grammar.specs.Statement.{Statement}
+use Rattle.grammar.specs.Productions.{Placed, Any, Ended, classes}
 use Rattle.grammar.specs.Reading.{Last}
 use Rattle.grammar.specs.Reading.Last.{end, broken}
 use Rattle.grammar.specs.Rows.{real, Stands}
 use Rattle.grammar.proofs.Points.{is-point, stays, refuted, elsewhere, walked-any, any-walks}
 use Rattle.grammar.proofs.Ways.{finish, finishes}
-use Rattle.item.specs.Tokens.{nextItem, Tokens}
+use Rattle.grammar.proofs.Viable.{placed, its-classes}
+use Rattle.item.specs.Tokens.{nextItem, Tokens, After}
 use Rattle.item.specs.Tokens.Next.{item, ended, none}
 use Rattle.item.specs.Tokens.Tokens.{at-end, no-token, then as and-then}
 use Rattle.statement.proofs.Plain.{Part, partAt}
 use Rattle.statement.proofs.Plain.Part.{whole, stopped}
 use Rattle.statement.proofs.Bridge.{on-token, on-end, on-none}
-use Rattle.job_claims.specs.Rows.{WholeOne, Opens, After, One, OneThree, OneFourEnd, OneFourToken, OneFive}
-use Rattle.job_claims.specs.Rows.After.{here, then}
+use Rattle.item.specs.Tokens.After.{here, then}
+use Rattle.job_claims.specs.Rows.{WholeOne, Opens, One, OneThree, OneFourEnd, OneFourToken, OneFive}
 
 walk-append : (q : Point) (k r : List Class) → walk q (k ++ r) ≡ walk (walk q k) r
 walk-append q [] r = refl
@@ -40,24 +42,35 @@ point-append a t = ap (walk statement) (classes-append a (t ∷ [])) ∙ walk-ap
 -- a statement begins with a exactly when a leads to a living point
 alive : (a : List Placed) → Opens a → isPoint (point a) dead ≡ false
 alive a o =
-    elsewhere (point a) dead (o .0) (stays (o .0)) (ap (λ (q : Point). isPoint q dead) (sym (walk-append statement (classes a) (o .0)) ∙ any-walks (o .1)))
+    elsewhere (point a) dead (classes (o .0)) (stays (classes (o .0)))
+    (ap (λ (q : Point). isPoint q dead) (sym (ap (walk statement) (classes-append a (o .0)) ∙ walk-append statement (classes a) (classes (o .0))) ∙ any-walks (o .1 .1)))
 
 opens : (a : List Placed) → isPoint (point a) dead ≡ false → Opens a
-opens a e = (finish (point a), walked-any (classes a ++ finish (point a)) (walk-append statement (classes a) (finish (point a)) ∙ finishes (point a) e))
+opens a e =
+    let r : List Placed = placed (finish (point a)) in
+    (
+      r,
+      walked-any (a ++ r)
+      (ap (walk statement) (classes-append a r) ∙ walk-append statement (classes a) (classes r) ∙ ap (walk (point a)) (its-classes (finish (point a))) ∙ finishes (point a) e),
+    )
 
 not-opens : (a : List Placed) → isPoint (point a) dead ≡ true → ¬ Opens a
 not-opens a e o = true≢false (sym e ∙ alive a o)
 
 -- a is no whole statement exactly when it leads elsewhere than to `done`
 not-whole : (a : List Placed) → isPoint (point a) done ≡ false → ¬ WholeOne a
-not-whole a e w = true≢false (sym (ap (λ (q : Point). isPoint q done) (any-walks w)) ∙ e)
+not-whole a e w = true≢false (sym (ap (λ (q : Point). isPoint q done) (any-walks (w .1))) ∙ e)
 
 still-open : (a : List Placed) → ¬ WholeOne a → isPoint (point a) done ≡ false
-still-open a n = refuted (isPoint (point a) done) (λ e. n (walked-any (classes a) (is-point (point a) done e)))
+still-open a n = refuted (isPoint (point a) done) (λ e. n (walked-any a (is-point (point a) done e)))
+
+-- a whole statement, whatever it reads, up to the place e
+abbrev pub Somewhat : List ℕ → ℕ → ℕ → Type 0
+Somewhat s at e = (a : List Placed) × After s at a e × WholeOne a
 
 -- the verdict on one statement
 pub data Judged (s : List ℕ) (at : ℕ) (ts : List Placed) (z : Last) : Part → Type 0 where
-  read : {e : ℕ} → One s at e → Judged s at ts z (whole e)
+  read : {e : ℕ} → Somewhat s at e → Judged s at ts z (whole e)
   three : {p : ℕ} → OneThree ts z p → Judged s at ts z (stopped noToken p)
   four-end : {p : ℕ} → OneFourEnd ts z p → Judged s at ts z (stopped unexpected p)
   four-token : {p : ℕ} → OneFourToken ts p → Judged s at ts z (stopped unexpected p)
@@ -71,39 +84,39 @@ dead-after a t bad = go (isPoint (step (point a) (t .class)) dead) refl
     go false e = absurd (bad (opens (a ++ (t ∷ [])) (ap (λ (q : Point). isPoint q dead) (point-append a t) ∙ e)))
 
 module _ (s : List ℕ) where
-  after-more : {i j b : ℕ} {a : List Placed} {t : Placed} → After s i a j → nextItem s j ≡ item t b → After s i (a ++ (t ∷ [])) b
+  after-more : {i j : ℕ} {a : List Placed} {t : Placed} → After s i a j → nextItem s j ≡ item t → After s i (a ++ (t ∷ [])) (t .end)
   after-more here e = then e here
   after-more (then d r) e = then d (after-more r e)
 
   -- reading goes along the tokens of an open statement
   along : {i j : ℕ} {a : List Placed} → After s i a j → (q : Point) → isPoint (walk q (classes a)) dead ≡ false → partAt s q i ≡ partAt s (walk q (classes a)) j
   along here q l = refl
-  along {i = i} (then {b = b} {t = t} {a = a} e r) q l =
+  along {i = i} (then {t = t} {a = a} e r) q l =
       let d : isPoint q done ≡ false = elsewhere q done (t .class ∷ classes a) (stays (classes a)) l in
       let n : isPoint (step q (t .class)) dead ≡ false = elsewhere (step q (t .class)) dead (classes a) (stays (classes a)) l in
-      on-token s q d i b t e ∙ rw n (along r (step q (t .class)) l)
+      on-token s q d i t e ∙ rw n (along r (step q (t .class)) l)
 
   -- the tokens of a file, cut in two
-  record Cut (i : ℕ) (a rest : List Placed) (z : Last) : Type 0 where
+  pub record Cut (i : ℕ) (a rest : List Placed) (z : Last) : Type 0 where
     pub place : ℕ
     pub first : After s i a place
     pub then-rest : Tokens s place rest z
 
-  cut : {i : ℕ} (a : List Placed) {ts rest : List Placed} {z : Last} → Tokens s i ts z → ts ≡ a ++ rest → Cut i a rest z
+  pub cut : {i : ℕ} (a : List Placed) {ts rest : List Placed} {z : Last} → Tokens s i ts z → ts ≡ a ++ rest → Cut i a rest z
   cut {i} [] {z = z} d e = record { place = i; first = here; then-rest = subst (λ (l : List Placed). Tokens s i l z) e d }
   cut (t ∷ a) (at-end x) e = let n : _≡_ {A = ℕ} 0 1 = cc in absurd (omega arith)
   cut (t ∷ a) (no-token x) e = let n : _≡_ {A = ℕ} 0 1 = cc in absurd (omega arith)
-  cut {i} (t ∷ a) {rest = rest} {z = z} (and-then {b = b} {t = u} {ts = us} x r) e =
+  cut {i} (t ∷ a) {rest = rest} {z = z} (and-then {t = u} {ts = us} x r) e =
       let f : us ≡ a ++ rest = cc in
       let g : u ≡ t = cc in
-      let c : Cut b a rest z = cut a r f in
-      record { place = c .place; first = then (x ∙ ap (λ (w : Placed). item w b) g) (c .first); then-rest = c .then-rest }
+      let c : Cut (t .end) a rest z = cut a (subst (λ (w : Placed). Tokens s (w .end) us z) g r) f in
+      record { place = c .place; first = then (x ∙ ap item g) (c .first); then-rest = c .then-rest }
 
   -- what stands next, where it is known how the tokens go on
-  next-token : {i : ℕ} {t : Placed} {ts : List Placed} {z : Last} → Tokens s i (t ∷ ts) z → (b : ℕ) × nextItem s i ≡ item t b
-  next-token (and-then {b = b} x r) = (b, x)
+  next-token : {i : ℕ} {t : Placed} {ts : List Placed} {z : Last} → Tokens s i (t ∷ ts) z → nextItem s i ≡ item t
+  next-token (and-then x r) = x
 
-  next-end : {i p : ℕ} → Tokens s i [] (end p) → nextItem s i ≡ ended p
+  pub next-end : {i p : ℕ} → Tokens s i [] (end p) → nextItem s i ≡ ended p
   next-end (at-end x) = x
 
   next-none : {i p : ℕ} → Tokens s i [] (broken p) → nextItem s i ≡ none p
@@ -111,8 +124,8 @@ module _ (s : List ℕ) where
 
   -- the rows give the reading
   module _ (at : ℕ) (ts : List Placed) (z : Last) (d : Tokens s at ts z) where
-    whole-is : (e : ℕ) → One s at e → partAt s statement at ≡ whole e
-    whole-is e (a, f, w) = along f statement (ap (λ (q : Point). isPoint q dead) (any-walks w)) ∙ ap (λ (q : Point). partAt s q e) (any-walks w)
+    whole-is : (e : ℕ) → Somewhat s at e → partAt s statement at ≡ whole e
+    whole-is e (a, f, w) = along f statement (ap (λ (q : Point). isPoint q dead) (any-walks (w .1))) ∙ ap (λ (q : Point). partAt s q e) (any-walks (w .1))
 
     none-is : (p : ℕ) → OneThree ts z p → partAt s statement at ≡ stopped noToken p
     none-is p (o, n, e) =
@@ -125,20 +138,19 @@ module _ (s : List ℕ) where
         along (c .first) statement (alive ts o) ∙ on-end s (point ts) (still-open ts n) (c .place) p (next-end (c .then-rest))
 
     -- at the token t after a
-    at-token : (a : List Placed) (t : Placed) (p : ℕ) → Stands ts p a t → isPoint (point a) dead ≡ false → isPoint (point a) done ≡ false → (x y : Bool) → isPoint (step (point a) (t .class)) dead ≡ x → isPoint (step (point a) (shape (t .class))) dead ≡ y → (b : ℕ) → (q : Part) → ((b : ℕ) → cond x (cond y (stopped unexpected (t .place)) (stopped notReal (t .place))) (partAt s (step (point a) (t .class)) b) ≡ q) → partAt s statement at ≡ q
-    at-token a t p h l n x y e f b q g =
+    at-token : (a : List Placed) (t : Placed) (p : ℕ) → Stands ts p a t → isPoint (point a) dead ≡ false → isPoint (point a) done ≡ false → (x y : Bool) → isPoint (step (point a) (t .class)) dead ≡ x → isPoint (step (point a) (shape (t .class))) dead ≡ y → (q : Part) → cond x (cond y (stopped unexpected (t .place)) (stopped notReal (t .place))) (partAt s (step (point a) (t .class)) (t .end)) ≡ q → partAt s statement at ≡ q
+    at-token a t p h l n x y e f q g =
         let c : Cut at a (t ∷ h .after) z = cut a d (h .parts) in
-        let m : (b : ℕ) × nextItem s (c .place) ≡ item t b = next-token (c .then-rest) in
-        along (c .first) statement l ∙ on-token s (point a) n (c .place) (m .0) t (m .1) ∙ rw (e, f) (g (m .0))
+        along (c .first) statement l ∙ on-token s (point a) n (c .place) t (next-token (c .then-rest)) ∙ rw (e, f) g
 
     four-is : (p : ℕ) → OneFourToken ts p → partAt s statement at ≡ stopped unexpected p
     four-is p (a, t, h, o, n, bad, nor) =
-        at-token a t p h (alive a o) (still-open a n) true true (dead-after a t bad) (dead-after a (real t) nor) 0 _ (λ b. ap (stopped unexpected) (h .place))
+        at-token a t p h (alive a o) (still-open a n) true true (dead-after a t bad) (dead-after a (real t) nor) _ (ap (stopped unexpected) (h .place))
 
     five-is : (p : ℕ) → OneFive ts p → partAt s statement at ≡ stopped notReal p
     five-is p (a, t, h, may, bad) =
         let l : isPoint (step (point a) (shape (t .class))) dead ≡ false = ap (λ (q : Point). isPoint q dead) (sym (point-append a (real t))) ∙ alive (a ++ (real t ∷ [])) may in
-        at-token a t p h (elsewhere (point a) dead (shape (t .class) ∷ []) refl l) (elsewhere (point a) done (shape (t .class) ∷ []) refl l) true false (dead-after a t bad) l 0 _ (λ b. ap (stopped notReal) (h .place))
+        at-token a t p h (elsewhere (point a) dead (shape (t .class) ∷ []) refl l) (elsewhere (point a) done (shape (t .class) ∷ []) refl l) true false (dead-after a t bad) l _ (ap (stopped notReal) (h .place))
 
     pub says-one : (x : Part) → Judged s at ts z x → partAt s statement at ≡ x
     says-one x (read {e = e} o) = whole-is e o
@@ -156,8 +168,8 @@ module _ (s : List ℕ) where
     one-more a t ts = append-assoc a (t ∷ []) ts
 
     -- a token, by what it leads to
-    module _ (i b : ℕ) (a : List Placed) (t : Placed) (us : List Placed) (z : Last) (l : isPoint (point a) dead ≡ false) (n : isPoint (point a) done ≡ false) where
-      token : (isPoint (step (point a) (t .class)) dead ≡ false → Judged s at (a ++ (t ∷ us)) z (partAt s (step (point a) (t .class)) b)) → (x y : Bool) → isPoint (step (point a) (t .class)) dead ≡ x → isPoint (step (point a) (shape (t .class))) dead ≡ y → Judged s at (a ++ (t ∷ us)) z (cond x (cond y (stopped unexpected (t .place)) (stopped notReal (t .place))) (partAt s (step (point a) (t .class)) b))
+    module _ (a : List Placed) (t : Placed) (us : List Placed) (z : Last) (l : isPoint (point a) dead ≡ false) (n : isPoint (point a) done ≡ false) where
+      token : (isPoint (step (point a) (t .class)) dead ≡ false → Judged s at (a ++ (t ∷ us)) z (partAt s (step (point a) (t .class)) (t .end))) → (x y : Bool) → isPoint (step (point a) (t .class)) dead ≡ x → isPoint (step (point a) (shape (t .class))) dead ≡ y → Judged s at (a ++ (t ∷ us)) z (cond x (cond y (stopped unexpected (t .place)) (stopped notReal (t .place))) (partAt s (step (point a) (t .class)) (t .end)))
       token later false y p q = later p
       token later true true p q =
           four-token (a, t, here-stands a t us, opens a l, not-whole a n, not-opens (a ++ (t ∷ [])) (ap (λ (r : Point). isPoint r dead) (point-append a t) ∙ p), not-opens (a ++ (real t ∷ [])) (ap (λ (r : Point). isPoint r dead) (point-append a (real t)) ∙ q))
@@ -165,7 +177,7 @@ module _ (s : List ℕ) where
           five (a, t, here-stands a t us, opens (a ++ (real t ∷ [])) (ap (λ (r : Point). isPoint r dead) (point-append a (real t)) ∙ q), not-opens (a ++ (t ∷ [])) (ap (λ (r : Point). isPoint r dead) (point-append a t) ∙ p))
 
     at-done : (i : ℕ) (a ts : List Placed) (z : Last) → After s at a i → point a ≡ done → Judged s at ts z (partAt s (point a) i)
-    at-done i a ts z f e = subst (λ (q : Point). Judged s at ts z (partAt s q i)) (sym e) (read (a, f, walked-any (classes a) e))
+    at-done i a ts z f e = subst (λ (q : Point). Judged s at ts z (partAt s q i)) (sym e) (read (a, f, walked-any a e))
 
     judge : {i : ℕ} {ts : List Placed} {z : Last} → Tokens s i ts z → (a : List Placed) → After s at a i → isPoint (point a) dead ≡ false → Judged s at (a ++ ts) z (partAt s (point a) i)
     judge {i} (at-end {p = p} x) a f l = go (isPoint (point a) done) refl
@@ -178,13 +190,13 @@ module _ (s : List ℕ) where
         go : (b : Bool) → isPoint (point a) done ≡ b → Judged s at (a ++ []) (broken p) (partAt s (point a) i)
         go true e = at-done i a (a ++ []) (broken p) f (is-point (point a) done e)
         go false n = rw (on-none s (point a) n i p x, append-nil a) (three (opens a l, not-whole a n, refl))
-    judge {i} {z = z} (and-then {b = b} {t = t} {ts = us} x r) a f l = go (judge r (a ++ (t ∷ [])) (after-more f x)) (isPoint (point a) done) refl
+    judge {i} {z = z} (and-then {t = t} {ts = us} x r) a f l = go (judge r (a ++ (t ∷ [])) (after-more f x)) (isPoint (point a) done) refl
       where
-        go : (isPoint (point (a ++ (t ∷ []))) dead ≡ false → Judged s at ((a ++ (t ∷ [])) ++ us) z (partAt s (point (a ++ (t ∷ []))) b)) → (c : Bool) → isPoint (point a) done ≡ c → Judged s at (a ++ (t ∷ us)) z (partAt s (point a) i)
+        go : (isPoint (point (a ++ (t ∷ []))) dead ≡ false → Judged s at ((a ++ (t ∷ [])) ++ us) z (partAt s (point (a ++ (t ∷ []))) (t .end))) → (c : Bool) → isPoint (point a) done ≡ c → Judged s at (a ++ (t ∷ us)) z (partAt s (point a) i)
         go later true e = at-done i a (a ++ (t ∷ us)) z f (is-point (point a) done e)
         go later false n =
-            subst (Judged s at (a ++ (t ∷ us)) z) (sym (on-token s (point a) n i b t x))
-            (token i b a t us z l n (λ p. rw (one-more a t us, point-append a t) at (later (ap (λ (q : Point). isPoint q dead) (point-append a t) ∙ p))) (isPoint (step (point a) (t .class)) dead) (isPoint (step (point a) (shape (t .class))) dead) refl refl)
+            subst (Judged s at (a ++ (t ∷ us)) z) (sym (on-token s (point a) n i t x))
+            (token a t us z l n (λ p. rw (one-more a t us, point-append a t) at (later (ap (λ (q : Point). isPoint q dead) (point-append a t) ∙ p))) (isPoint (step (point a) (t .class)) dead) (isPoint (step (point a) (shape (t .class))) dead) refl refl)
 
     pub one-says : {ts : List Placed} {z : Last} → Tokens s at ts z → Judged s at ts z (partAt s statement at)
     one-says d = judge d [] here refl

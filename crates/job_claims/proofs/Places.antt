@@ -22,7 +22,7 @@ use Rattle.item.specs.Tokens.Tokens.{at-end, no-token, then}
 use Rattle.item.proofs.Lines.{ahead, inside}
 
 abbrev placeOf : Next → ℕ
-placeOf (item t b) = t .place
+placeOf (item t) = t .place
 placeOf (ended p) = p
 placeOf (none p) = p
 
@@ -51,7 +51,7 @@ next-in s i x l e =
 last-within : {s : List ℕ} {i : ℕ} {ts : List Placed} {z : Last} → Tokens s i ts z → i ≤ length s → lastPlace z ≤ length s
 last-within {s} {i} (at-end e) l = next-in s i _ l e
 last-within {s} {i} (no-token e) l = next-in s i _ l e
-last-within {s} {i} (then {b = b} {t = t} e r) l = last-within r (ahead s i t b e .1 .inside)
+last-within {s} {i} (then {t = t} e r) l = last-within r (ahead s i t e .1 .inside)
 
 module _ {s : List ℕ} {i : ℕ} {ts : List Placed} {z : Last} (d : Tokens s i ts z) (l : i ≤ length s) {p : ℕ} where
   pub broken-within : z ≡ broken p → p ≤ length s
@@ -65,7 +65,7 @@ among (at-end e) [] t after q = let y : _≡_ {A = ℕ} 0 1 = cc in absurd (omeg
 among (at-end e) (x ∷ a) t after q = let y : _≡_ {A = ℕ} 0 1 = cc in absurd (omega arith)
 among (no-token e) [] t after q = let y : _≡_ {A = ℕ} 0 1 = cc in absurd (omega arith)
 among (no-token e) (x ∷ a) t after q = let y : _≡_ {A = ℕ} 0 1 = cc in absurd (omega arith)
-among {s} {i} (then {b = b} {t = u} e r) [] t after q = let y : u ≡ t = cc in let h : u .place < length s = inside s i u b e in omega (arith, ap (λ (x : Placed). x .place) y)
+among {s} {i} (then {t = u} e r) [] t after q = let y : u ≡ t = cc in let h : u .place < length s = inside s i u e in omega (arith, ap (λ (x : Placed). x .place) y)
 among (then e r) (x ∷ a) t after q = among r a t after (cc)
 
 pub token-within : {s : List ℕ} {i : ℕ} {ts : List Placed} {z : Last} → Tokens s i ts z → {p : ℕ} {a : List Placed} {t : Placed} → Stands ts p a t → p ≤ length s

@@ -1,9 +1,9 @@
 -- Demand 2 for one statement: `readStatement`, which the contract of `job::read_statement` cites, gives an answer exactly when document 01
 -- says so. `ts` are the file's tokens from the offset on, and `z` ends them. Assumes nothing.
 use Prim.Native.Nat.{ℕ, _≤_, _<_}
-use mathlib.Core.Path.{_≡_, refl, sym, _∙_, ap, subst}
-use mathlib.Core.Bool.{Bool, true, false, cond}
-use mathlib.Core.List.{List}
+use mathlib.Core.Path.{_≡_, refl, sym, _∙_, ap, subst, subst₂}
+use mathlib.Core.Bool.{Bool, true, false, true≢false, cond}
+use mathlib.Core.List.{List, [], _∷_}
 use mathlib.Core.Logic.{_↔_, _⊎_, inl, inr}
 use native.Mathlib.Omega.{arith}
 use borrow.Author.Tests.{leb-true, leb-false, le-leb, lt-leb}
@@ -13,12 +13,17 @@ use Rattle.counts.specs.Limits.{fileBytes}
 use Rattle.counts.specs.Refusals.{fileTooLong, outOfRange, noToken, unexpected, notReal}
 use Rattle.counts.specs.Result.{Result}
 use Rattle.counts.specs.Result.Result.{refused, done}
-use Rattle.grammar.specs.Grammar.Point.{statement}
+use Rattle.grammar.specs.Grammar.{Point, isPoint}
+use Rattle.grammar.specs.Grammar.Point.{statement, done as done-point}
+use Rattle.grammar.specs.Statement as read
 use Rattle.grammar.specs.Productions.{Placed}
 use Rattle.grammar.specs.Reading.{Last}
-use Rattle.item.specs.Tokens.{Tokens}
+use Rattle.grammar.proofs.Points.{any-walks}
+use Rattle.item.specs.Tokens.{lineAt}
+use Rattle.item.proofs.Lines.{tokens-at}
 use Rattle.item.specs.Items.{itemAt}
 use Rattle.statement.specs.Statement.{statementOf}
+use Rattle.statement.specs.declared.Statement.{Statement}
 use Rattle.statement.specs.declared.StatementRead.{StatementRead}
 use Rattle.statement.specs.declared.StatementRead.the-variants.{Is, Refused}
 use Rattle.statement.proofs.Plain.{Part, partAt}
@@ -26,15 +31,18 @@ use Rattle.statement.proofs.Plain.Part.{whole, stopped}
 use Rattle.statement.proofs.Forget.{forget}
 use Rattle.statement.proofs.Words.{statement-is}
 use Rattle.statement.proofs.From.{statement-from}
-use Rattle.job.specs.Statement.{onRead, statementIn, readStatement}
+use Rattle.statement.proofs.Lossless.{one-statement}
+use Rattle.statement.specs.Paper.{paperStatement}
+use Rattle.job.specs.Statement.{placed, onRead, statementIn, readStatement}
 use Rattle.job.specs.declared.StatementAt.{StatementAt}
-use Rattle.job_claims.specs.Rows.{One, OneThree, OneFourEnd, OneFourToken, OneFive}
+use Rattle.job_claims.specs.Rows.{WholeOne, One, OneThree, OneFourEnd, OneFourToken, OneFive}
 use Rattle.job_claims.proofs.Places.{broken-within, end-within, token-within}
+use Rattle.job_claims.proofs.Tiles.{same-read, ReadsOne, reads-one}
 use Rattle.job_claims.proofs.One.{Judged, says-one, one-says}
 use Rattle.job_claims.proofs.One.Judged.{read, three, four-end, four-token, five}
 
 -- an answer without the statement's values: the place after its `;`, or the refusal
-abbrev pub ends : Result StatementAt → Result ℕ
+abbrev ends : Result StatementAt → Result ℕ
 ends (done x) = done (x .next)
 ends (refused n p) = refused n p
 
@@ -51,7 +59,17 @@ ends-refused : (a : Result StatementAt) (n p : ℕ) → ends a ≡ refused n p �
 ends-refused (done x) n p e = let z : _≡_ {A = ℕ} 0 1 = cc in absurd (omega arith)
 ends-refused (refused m q) n p e = let a : m ≡ n = cc in let b : q ≡ p = cc in rw (a, b)
 
-module _ (s : List ℕ) (at : ℕ) (ts : List Placed) (z : Last) (d : Tokens s at ts z) where
+no-statement : WholeOne [] → ⊥
+no-statement w = true≢false (sym (ap (λ (q : Point). isPoint q done-point) (any-walks (w .1))))
+
+module _ (s : List ℕ) (at : ℕ) where
+  -- the tokens from the offset on, and what ends them
+  abbrev ts : List Placed
+  ts = lineAt s at .tokens
+
+  abbrev z : Last
+  z = lineAt s at .last
+
   data Verdict : Result ℕ → Type 0 where
     too-long : fileBytes < length s → Verdict (refused fileTooLong 0)
     past : length s ≤ fileBytes → length s < at → Verdict (refused outOfRange 0)
@@ -76,14 +94,14 @@ module _ (s : List ℕ) (at : ℕ) (ts : List Placed) (z : Last) (d : Tokens s a
       go : (a : Bool) → leb (length s) fileBytes ≡ a → (b : Bool) → leb at (length s) ≡ b → Verdict (ends (cond a (cond b (statementIn at (drop at s)) (refused outOfRange 0)) (refused fileTooLong 0)))
       go false e b f = too-long (leb-false _ _ e)
       go true e false f = past (leb-true _ _ e) (leb-false _ _ f)
-      go true e true f = subst Verdict (sym (in-part (leb-true _ _ f))) (judged (leb-true _ _ e) (leb-true _ _ f) (partAt s statement at) (one-says s at d))
+      go true e true f = subst Verdict (sym (in-part (leb-true _ _ f))) (judged (leb-true _ _ e) (leb-true _ _ f) (partAt s statement at) (one-says s at (tokens-at s at)))
 
   only : (v : Result ℕ) → Verdict v → ends (readStatement s at) ≡ v
   unfolding readStatement ofPart
   only v (too-long l) = rw (lt-leb _ _ l)
   only v (past l m) = rw (le-leb _ _ l, lt-leb _ _ m)
-  only v (not-read l m j) = rw (le-leb _ _ l, le-leb _ _ m) (in-part m ∙ ap ofPart (says-one s at ts z d _ j))
-  only v (is-read l m j) = rw (le-leb _ _ l, le-leb _ _ m) (in-part m ∙ ap ofPart (says-one s at ts z d _ j))
+  only v (not-read l m j) = rw (le-leb _ _ l, le-leb _ _ m) (in-part m ∙ ap ofPart (says-one s at ts z (tokens-at s at) _ j))
+  only v (is-read l m j) = rw (le-leb _ _ l, le-leb _ _ m) (in-part m ∙ ap ofPart (says-one s at ts z (tokens-at s at) _ j))
 
   asked : {n p : ℕ} → readStatement s at ≡ refused n p → Verdict (refused n p)
   asked e = subst Verdict (ap ends e) given
@@ -91,13 +109,30 @@ module _ (s : List ℕ) (at : ℕ) (ts : List Placed) (z : Last) (d : Tokens s a
   told : {n p : ℕ} → Verdict (refused n p) → readStatement s at ≡ refused n p
   told {n} {p} v = ends-refused (readStatement s at) n p (only (refused n p) v)
 
-  -- A statement is read, up to the place e after its `;`, when and only when the tokens from the offset on begin with a whole statement that
-  -- ends there.
-  pub statement-read-exactly : (e : ℕ) → ends (readStatement s at) ≡ done e ↔ (length s ≤ fileBytes) × (at ≤ length s) × One s at e
-  statement-read-exactly e = (λ h. from (subst Verdict h given), λ h. only (done e) (is-read (h .0) (h .1) (read (h .2))))
+  -- A statement is answered when, and only when, the tokens from the offset on, up to and including their first `;`, are a production that reads
+  -- it; with its own offset and the place after its `;`.
+  pub reading-exactly : (x : Statement) (o e : ℕ)
+      → readStatement s at ≡ done (placed x o e) ↔ (length s ≤ fileBytes) × (at ≤ length s) × One s at (paperStatement x) o e
+  reading-exactly x o e = (λ h. from (subst Verdict (ap ends h) given) h, λ h. to (h .0) (h .1) (h .2))
     where
-      from : Verdict (done e) → (length s ≤ fileBytes) × (at ≤ length s) × One s at e
-      from (is-read l m (read o)) = (l, m, o)
+      to : length s ≤ fileBytes → at ≤ length s → One s at (paperStatement x) o e → readStatement s at ≡ done (placed x o e)
+      to l m w =
+          let r : ReadsOne s l at (paperStatement x) o e = reads-one s l at m (paperStatement x) o e w in
+          r .reads ∙ ap (λ (y : Statement). done (placed y o e)) (one-statement (r .statement) x (r .says))
+
+      -- some production ends there; it is what was read
+      one : length s ≤ fileBytes → at ≤ length s → (y : read.Statement) (p : ℕ) → One s at y p e → readStatement s at ≡ done (placed x o e)
+          → One s at (paperStatement x) o e
+      one l m y p w h =
+          let r : ReadsOne s l at y p e = reads-one s l at m y p e w in
+          let q : placed (r .statement) p e ≡ placed x o e = same-read (sym (r .reads) ∙ h) in
+          subst₂ (λ (v : read.Statement) (k : ℕ). One s at v k e) (sym (r .says) ∙ ap (λ (v : StatementAt). paperStatement (v .statement)) q)
+          (ap (λ (v : StatementAt). v .offset) q) w
+
+      from : Verdict (done e) → readStatement s at ≡ done (placed x o e) → (length s ≤ fileBytes) × (at ≤ length s) × One s at (paperStatement x) o e
+      from (is-read l m (read ([], f, w))) h = absurd (no-statement w)
+      from (is-read l m (read (t ∷ a, f, w))) h =
+          (l, m, one l m (w .0) (t .place) (record { first = t; more = a; stand = f; reads = w .1; begins = refl }) h)
 
   pub statement-one-exactly : (p : ℕ) → readStatement s at ≡ refused fileTooLong p ↔ (fileBytes < length s) × p ≡ 0
   statement-one-exactly p = (λ e. from p (asked e), λ h. rw (h .1) (told (too-long (h .0))))
@@ -111,26 +146,26 @@ module _ (s : List ℕ) (at : ℕ) (ts : List Placed) (z : Last) (d : Tokens s a
       from : (p : ℕ) → Verdict (refused outOfRange p) → (length s ≤ fileBytes) × (length s < at) × p ≡ 0
       from p (past l m) = (l, m, refl)
 
-  pub statement-three-exactly : (p : ℕ) → readStatement s at ≡ refused noToken p ↔ (length s ≤ fileBytes) × (at ≤ length s) × OneThree ts z p
+  pub statement-three-exactly : (p : ℕ) → readStatement s at ≡ refused noToken p ↔ (length s ≤ fileBytes) × (at ≤ length s) × OneThree (lineAt s at .tokens) (lineAt s at .last) p
   statement-three-exactly p = (λ e. from (asked e), λ h. told (not-read (h .0) (h .1) (three (h .2))))
     where
-      from : Verdict (refused noToken p) → (length s ≤ fileBytes) × (at ≤ length s) × OneThree ts z p
+      from : Verdict (refused noToken p) → (length s ≤ fileBytes) × (at ≤ length s) × OneThree (lineAt s at .tokens) (lineAt s at .last) p
       from (not-read l m (three r)) = (l, m, r)
 
-  pub statement-five-exactly : (p : ℕ) → readStatement s at ≡ refused notReal p ↔ (length s ≤ fileBytes) × (at ≤ length s) × OneFive ts p
+  pub statement-five-exactly : (p : ℕ) → readStatement s at ≡ refused notReal p ↔ (length s ≤ fileBytes) × (at ≤ length s) × OneFive (lineAt s at .tokens) p
   statement-five-exactly p = (λ e. from (asked e), λ h. told (not-read (h .0) (h .1) (five (h .2))))
     where
-      from : Verdict (refused notReal p) → (length s ≤ fileBytes) × (at ≤ length s) × OneFive ts p
+      from : Verdict (refused notReal p) → (length s ≤ fileBytes) × (at ≤ length s) × OneFive (lineAt s at .tokens) p
       from (not-read l m (five r)) = (l, m, r)
 
-  pub statement-four-exactly : (p : ℕ) → readStatement s at ≡ refused unexpected p ↔ (length s ≤ fileBytes) × (at ≤ length s) × (OneFourToken ts p ⊎ OneFourEnd ts z p)
+  pub statement-four-exactly : (p : ℕ) → readStatement s at ≡ refused unexpected p ↔ (length s ≤ fileBytes) × (at ≤ length s) × (OneFourToken (lineAt s at .tokens) p ⊎ OneFourEnd (lineAt s at .tokens) (lineAt s at .last) p)
   statement-four-exactly p = (λ e. from (asked e), λ h. told (not-read (h .0) (h .1) (to (h .2))))
     where
-      from : Verdict (refused unexpected p) → (length s ≤ fileBytes) × (at ≤ length s) × (OneFourToken ts p ⊎ OneFourEnd ts z p)
+      from : Verdict (refused unexpected p) → (length s ≤ fileBytes) × (at ≤ length s) × (OneFourToken (lineAt s at .tokens) p ⊎ OneFourEnd (lineAt s at .tokens) (lineAt s at .last) p)
       from (not-read l m (four-token r)) = (l, m, inl r)
       from (not-read l m (four-end r)) = (l, m, inr r)
 
-      to : OneFourToken ts p ⊎ OneFourEnd ts z p → Judged s at ts z (stopped unexpected p)
+      to : OneFourToken (lineAt s at .tokens) p ⊎ OneFourEnd (lineAt s at .tokens) (lineAt s at .last) p → Judged s at ts z (stopped unexpected p)
       to (inl r) = four-token r
       to (inr r) = four-end r
 
@@ -141,7 +176,7 @@ module _ (s : List ℕ) (at : ℕ) (ts : List Placed) (z : Last) (d : Tokens s a
       fits-in : {n p : ℕ} → Verdict (refused n p) → (1 ≤ n) × (n ≤ 14) × (p ≤ fileBytes)
       fits-in (too-long l) = (omega arith, omega arith, omega arith)
       fits-in (past l m) = (omega arith, omega arith, omega arith)
-      fits-in (not-read l m (three r)) = (omega arith, omega arith, omega (arith, broken-within d m (r .2)))
-      fits-in (not-read l m (four-end r)) = (omega arith, omega arith, omega (arith, end-within d m (r .2)))
-      fits-in (not-read l m (four-token r)) = (omega arith, omega arith, omega (arith, token-within d (r .2)))
-      fits-in (not-read l m (five r)) = (omega arith, omega arith, omega (arith, token-within d (r .2)))
+      fits-in (not-read l m (three r)) = (omega arith, omega arith, omega (arith, broken-within (tokens-at s at) m (r .2)))
+      fits-in (not-read l m (four-end r)) = (omega arith, omega arith, omega (arith, end-within (tokens-at s at) m (r .2)))
+      fits-in (not-read l m (four-token r)) = (omega arith, omega arith, omega (arith, token-within (tokens-at s at) (r .2)))
+      fits-in (not-read l m (five r)) = (omega arith, omega arith, omega (arith, token-within (tokens-at s at) (r .2)))

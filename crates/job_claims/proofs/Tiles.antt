@@ -1,157 +1,115 @@
--- Each statement of a taken file is read on its own from its offset, and they tile the file. Assumes nothing.
-use Prim.Native.Nat.{ℕ, zero, suc, _+_, _-_, _≤_, _<_}
-use mathlib.Core.Path.{_≡_, refl, _∙_, ap, ap₂}
-use mathlib.Core.Bool.{Bool, true, false, cond}
-use mathlib.Core.List.{List, [], _∷_, _++_, append-assoc, append-nil}
+-- A statement that the grammar gives is read, from its offset on; so the statements of a legal file tile it, each read on its own. Assumes nothing.
+use Prim.Native.Nat.{ℕ, _≤_, _<_}
+use mathlib.Core.Path.{_≡_, refl, sym, _∙_, ap, ap₂, subst}
+use mathlib.Core.Bool.{false}
+use mathlib.Core.List.{List, [], _∷_, _++_}
 use native.Mathlib.Omega.{arith}
-use borrow.Author.Tests.{le-leb, eqb-true}
-use lib.Dec.{eqb}
+use borrow.Author.Tests.{le-leb}
 use lib.ListN.{length}
-use Rattle.counts.specs.Limits.{fileBytes, statements}
-use Rattle.counts.specs.Refusals.{noToken, unexpected, tooManyStatements}
+use Rattle.counts.specs.Limits.{fileBytes}
+use Rattle.counts.specs.Result.{Result}
 use Rattle.counts.specs.Result.Result.{done}
-use Rattle.counts.proofs.Results.{refused-not-done}
-use Rattle.counts.specs.declared.Refusal.{Refusal}
 use Rattle.scan.specs.Run.{blankEnd}
 use Rattle.scan.proofs.Settled.{settled}
 use Rattle.token.specs.Token.{tokenAt, nextToken}
-use Rattle.grammar.specs.Grammar.{classNo}
-use Rattle.grammar.specs.Grammar.Class.{JOB}
-use Rattle.grammar.specs.Productions.{Placed}
-use Rattle.grammar.specs.Reading.{Answer}
-use Rattle.grammar.proofs.Points.{class-below}
-use Rattle.item.specs.Tokens.{Next, itemOf, nextItem}
-use Rattle.item.specs.Tokens.Next.{item, ended, none}
-use Rattle.item.specs.Items.{endNo, noneNo, numbered, itemAt}
+use Rattle.grammar.specs.Statement as read
+use Rattle.grammar.specs.Productions.{Placed, Job, Other, Any, Ended, Others, File}
+use Rattle.grammar.specs.Productions.Any.{the-job, another}
+use Rattle.grammar.specs.Productions.Ended.{ended}
+use Rattle.grammar.specs.Productions.Others.{none, more}
+use Rattle.grammar.specs.Productions.File.{file}
+use Rattle.grammar.specs.Reading.{Last}
+use Rattle.grammar.specs.Reading.Last.{end}
+use Rattle.item.specs.Tokens.{itemOf, nextItem, Tokens, After}
+use Rattle.item.specs.Tokens.Next.{item}
+use Rattle.item.specs.Tokens.After.{then}
+use Rattle.item.specs.Items.{itemAt}
 use Rattle.item.specs.declared.Item.{Item}
 use Rattle.item.proofs.Lines.{ahead, inside}
-use Rattle.item.proofs.Shows.{Shows, shows, from-there}
-use Rattle.item.proofs.Shows.Shows.{a-token, the-end, no-token}
+use Rattle.item.proofs.Shows.{from-there}
+use Rattle.item.proofs.Tells.{tells}
 use Rattle.statement.specs.Statement.{statementOf}
 use Rattle.statement.specs.declared.Statement.{Statement}
-use Rattle.statement.specs.declared.StatementRead.{StatementRead}
-use Rattle.statement.specs.declared.StatementRead.the-variants.{Is, Refused}
+use Rattle.statement.specs.Paper.{paperStatement}
 use Rattle.statement.proofs.From.{statement-from}
+use Rattle.statement.proofs.Readings.{StatementReads, statement-reads}
+use Rattle.job.specs.declared.StatementAt.{StatementAt}
 use Rattle.job.specs.Statement.{placed, onRead, readStatement, Tiled}
 use Rattle.job.specs.Statement.Tiled.{over, tile}
-use Rattle.job.specs.Loop.{stop, stepRead, stepInto, stepOf, onStep, jobLoop}
-use Rattle.job.specs.declared.Step.{Step}
-use Rattle.job.specs.declared.Step.the-variants.{Over, Stop, On}
+use Rattle.job_claims.specs.Rows.{One}
+use Rattle.job_claims.proofs.One.{Cut, cut, next-end}
 
 -- a token is found again from its own place
-again : (s : List ℕ) (i : ℕ) (t : Placed) (b : ℕ) → nextItem s i ≡ item t b → nextItem s (t .place) ≡ nextItem s i
+again : (s : List ℕ) (i : ℕ) (t : Placed) → nextItem s i ≡ item t → nextItem s (t .place) ≡ nextItem s i
 unfolding nextItem nextToken
-again s i t b e = ap (λ (j : ℕ). itemOf s (tokenAt s j)) (ap (blankEnd false s) (ahead s i t b e .0) ∙ settled s i)
+again s i t e = ap (λ (j : ℕ). itemOf s (tokenAt s j)) (ap (blankEnd false s) (ahead s i t e .0) ∙ settled s i)
 
-same-item : (s : List ℕ) (i : ℕ) (t : Placed) (b : ℕ) → nextItem s i ≡ item t b → itemAt 0 s (t .place) ≡ itemAt 0 s i
-unfolding nextItem nextToken itemAt
-same-item s i t b e =
-    let z : (n : ℕ) → n - 0 ≡ n = λ n. omega arith in
-    rw (z (t .place), z i) (ap (λ (j : ℕ). numbered 0 s (tokenAt s j)) (ap (blankEnd false s) (ahead s i t b e .0) ∙ settled s i))
+-- a JOB, or another statement, is a statement of any kind
+job-any : {a : List Placed} {y : read.Statement} → Ended Job a y → Ended Any a y
+job-any (ended z o j) = ended z (the-job o) j
 
-stop≢on : {r : Refusal} {n : ℕ} → Stop r ≡ On n → ⊥
-stop≢on e = let z : _≡_ {A = ℕ} 0 1 = cc in omega arith
+other-any : {a : List Placed} {y : read.Statement} → Ended Other a y → Ended Any a y
+other-any (ended z o j) = ended z (another o) j
 
--- a statement that the loop went over was read whole
-read-whole : (n : ℕ) (r : StatementRead) → stepRead r ≡ On n → (x : Statement) × r ≡ Is x n
-read-whole n (Is x m) e = let d : m ≡ n = cc in (x, ap (Is x) d)
-read-whole n (Refused r) e = absurd (stop≢on e)
+-- an answer that is read is one
+pub same-read : {x y : StatementAt} → _≡_ {A = Result StatementAt} (done x) (done y) → x ≡ y
+same-read e = cc
 
 module _ (s : List ℕ) (short : length s ≤ fileBytes) where
-  -- what a step can be: over at the end of the file only, a stop, or what the statement is read as
-  data Steps (t : Item) : Step → Type 0 where
-    is-over : t .class ≡ endNo → Steps t Over
-    stops : {r : Refusal} → Steps t (Stop r)
-    reads : Steps t (stepRead (statementOf 0 s t))
+  pub record ReadsOne (at : ℕ) (y : read.Statement) (o e : ℕ) : Type 0 where
+    pub statement : Statement
+    pub says : paperStatement statement ≡ y
+    pub reads : readStatement s at ≡ done (placed statement o e)
 
-  steps-into : (k : ℕ) (t : Item) → Steps t (stepInto s k t)
-  unfolding stepInto
-  steps-into k t = go (eqb k 0) (eqb (t .class) (classNo JOB))
-    where
-      go : (a b : Bool) → Steps t (cond a (cond b (stepRead (statementOf 0 s t)) (stop unexpected t)) (cond b (stop unexpected t) (stepRead (statementOf 0 s t))))
-      go true true = reads
-      go true false = stops
-      go false true = stops
-      go false false = reads
-
-  steps : (k : ℕ) (t : Item) → Steps t (stepOf s k t)
-  unfolding stepOf
-  steps k t = go (eqb (t .class) endNo) refl (eqb k 0) (eqb (t .class) noneNo) (eqb k statements)
-    where
-      go : (a : Bool) → eqb (t .class) endNo ≡ a → (z b f : Bool) → Steps t (cond a (cond z (stop unexpected t) Over) (cond b (stop noToken t) (cond f (stop tooManyStatements t) (stepInto s k t))))
-      go true e true b f = stops
-      go true e false b f = is-over (eqb-true (t .class) endNo e)
-      go false e z true f = stops
-      go false e z false true = stops
-      go false e z false false = steps-into k t
-
-  went-on : (t : Item) (n : ℕ) {y : Step} → Steps t y → y ≡ On n → stepRead (statementOf 0 s t) ≡ On n
-  went-on t n (is-over c) e = let z : _≡_ {A = ℕ} 0 1 = cc in absurd (omega arith)
-  went-on t n stops e = absurd (stop≢on e)
-  went-on t n reads e = e
-
-  read≢over : (r : StatementRead) → stepRead r ≡ Over → ⊥
-  read≢over (Is x m) e = let z : _≡_ {A = ℕ} 0 1 = cc in omega arith
-  read≢over (Refused r) e = let z : _≡_ {A = ℕ} 0 1 = cc in omega arith
-
-  over-end : (t : Item) {y : Step} → Steps t y → y ≡ Over → t .class ≡ endNo
-  over-end t (is-over c) e = c
-  over-end t stops e = let z : _≡_ {A = ℕ} 0 1 = cc in absurd (omega arith)
-  over-end t reads e = absurd (read≢over (statementOf 0 s t) e)
-
-  -- the statement that begins with the token u, on its own from its place
-  on-its-own : (i : ℕ) (u : Placed) (b n : ℕ) (x : Statement) → nextItem s i ≡ item u b → itemAt 0 s i .place ≡ u .place → statementOf 0 s (itemAt 0 s i) ≡ Is x n → readStatement s (u .place) ≡ done (placed x (u .place) n)
+  -- a statement of the grammar, from `at` on, is what is read there
+  pub reads-one : (at : ℕ) → at ≤ length s → (y : read.Statement) (o e : ℕ) → One s at y o e → ReadsOne at y o e
   unfolding readStatement
-  on-its-own i u b n x e p r =
-      let l : u .place < length s = inside s i u b e in
-      let m : u .place ≤ length s = omega arith in
-      let k : u .place ≤ u .place = omega arith in
-      rw (le-leb _ _ short, le-leb _ _ m)
-      (ap₂ onRead (ap (λ (t : Item). t .place) (from-there (u .place) s (u .place) m k ∙ same-item s i u b e) ∙ p)
-      (statement-from (u .place) s m (u .place) k ∙ ap (statementOf 0 s) (same-item s i u b e) ∙ r))
-
-  -- what the loop over statements took
-  record Took (i : ℕ) (os all : List ℕ) : Type 0 where
-    pub begun : List ℕ
-    pub offsets : all ≡ os ++ begun
-    pub tiled : Tiled s i begun
-
-  -- at the end, a token or no token
-  at-end : (k i p : ℕ) (os all : List ℕ) (t : Item) → Shows t (ended p) → nextItem s i ≡ ended p → (f : List ℕ → ℕ → Answer) → onStep (stepOf s k t) os (t .place) f ≡ done all → Took i os all
-  unfolding stepOf
-  at-end k i p os all t (the-end c q) e f w = go (eqb k 0) (rw c at w)
+  reads-one at l y o e w = go (w .stand)
     where
-      go : (z : Bool) → onStep (cond z (stop unexpected t) Over) os (t .place) f ≡ done all → Took i os all
-      go true x = absurd (refused-not-done x)
-      go false x = let a : all ≡ os = cc in record { begun = []; offsets = rw append-nil a; tiled = over e }
+      r : StatementReads s at e y
+      r = statement-reads s (w .reads) (w .stand)
 
-  at-none : (k p : ℕ) (os all : List ℕ) (t : Item) → Shows t (none p) → (f : List ℕ → ℕ → Answer) → onStep (stepOf s k t) os (t .place) f ≡ done all → ⊥
-  unfolding stepOf
-  at-none k p os all t (no-token c q) f w = refused-not-done (rw c at w)
+      k : at ≤ at
+      k = omega arith
 
-  -- a token, by the step it leads to
-  module _ (left i : ℕ) (os all : List ℕ) (later : (b : ℕ) (rs : List ℕ) → jobLoop s left rs b ≡ done all → Took b rs all) (u : Placed) (b : ℕ) (e : nextItem s i ≡ item u b) where
-    at-token : Shows (itemAt 0 s i) (item u b) → (y : Step) → stepOf s (length os) (itemAt 0 s i) ≡ y → onStep y os (itemAt 0 s i .place) (jobLoop s left) ≡ done all → Took i os all
-    at-token (a-token c p n) Over y w = let h : itemAt 0 s i .class ≡ endNo = over-end (itemAt 0 s i) (steps (length os) (itemAt 0 s i)) y in absurd (omega (arith, class-below (u .class)))
-    at-token h (Stop r) y w = absurd (refused-not-done w)
-    at-token (a-token c p n) (On d) y w =
-        let x : (x : Statement) × statementOf 0 s (itemAt 0 s i) ≡ Is x d = read-whole d (statementOf 0 s (itemAt 0 s i)) (went-on (itemAt 0 s i) d (steps (length os) (itemAt 0 s i)) y) in
-        let r : Took d (os ++ (u .place ∷ [])) all = later d (os ++ (u .place ∷ [])) (rw p at w) in
-        record {
-          begun = u .place ∷ r .begun;
-          offsets = r .offsets ∙ append-assoc os (u .place ∷ []) (r .begun);
-          tiled = tile (again s i u b e) (on-its-own i u b d (x .0) e p (x .1)) (r .tiled);
-        }
+      go : After s at (w .first ∷ w .more) e → ReadsOne at y o e
+      go (then n f) =
+          record {
+            statement = r .statement;
+            says = r .says;
+            reads =
+                rw (le-leb _ _ short, le-leb _ _ l)
+                (ap₂ onRead (ap (λ (t : Item). t .place) (from-there at s at l k) ∙ tells s at (w .first) n .place ∙ w .begins)
+                (statement-from at s l at k ∙ r .reads));
+          }
 
-  took : (left i : ℕ) (os all : List ℕ) → jobLoop s left os i ≡ done all → Took i os all
-  unfolding jobLoop
-  took zero i os all e = absurd (refused-not-done e)
-  took (suc left) i os all e = go (λ b rs w. took left b rs all w) (nextItem s i) refl (shows s i)
+  -- one statement of a file: the tokens t and a from i on
+  first-tile : {i : ℕ} {t : Placed} {a b : List Placed} {y : read.Statement} {z : Last} {os : List ℕ} {ys : List read.Statement} → Ended Any (t ∷ a) y
+      → Tokens s i (t ∷ (a ++ b)) z → ((e : ℕ) → Tokens s e b z → Tiled s e os ys) → Tiled s i (t .place ∷ os) (y ∷ ys)
+  first-tile {i} {t} {a} {b} {y} {z} {os} {ys} w d later = go (c .first)
     where
-      go : ((b : ℕ) (rs : List ℕ) → jobLoop s left rs b ≡ done all → Took b rs all) → (x : Next) → nextItem s i ≡ x → Shows (itemAt 0 s i) x → Took i os all
-      go later (ended p) x h = at-end (length os) i p os all (itemAt 0 s i) h x (jobLoop s left) e
-      go later (none p) x h = absurd (at-none (length os) p os all (itemAt 0 s i) h (jobLoop s left) e)
-      go later (item u b) x h = at-token left i os all later u b x h (stepOf s (length os) (itemAt 0 s i)) refl e
+      c : Cut s i (t ∷ a) b z
+      c = cut s (t ∷ a) d refl
 
-  pub tiles : (os : List ℕ) → jobLoop s (statements + 1) [] 0 ≡ done os → Tiled s 0 os
-  tiles os e = let r : Took 0 [] os = took (statements + 1) 0 [] os e in rw (r .offsets) (r .tiled)
+      go : After s i (t ∷ a) (c .place) → Tiled s i (t .place ∷ os) (y ∷ ys)
+      go (then n f) =
+          let m : t .place < length s = inside s i t n in
+          let o : One s (t .place) y (t .place) (c .place) = record { first = t; more = a; stand = then (again s i t n ∙ n) f; reads = w; begins = refl } in
+          let r : ReadsOne (t .place) y (t .place) (c .place) = reads-one (t .place) (omega arith) y (t .place) (c .place) o in
+          subst (λ (x : read.Statement). Tiled s i (t .place ∷ os) (x ∷ ys)) (r .says) (tile (again s i t n) (r .reads) (later (c .place) (c .then-rest)))
+
+  other-tiles : {i p : ℕ} {ts : List Placed} {os : List ℕ} {ys : List read.Statement} → Others ts os ys → Tokens s i ts (end p) → Tiled s i os ys
+  other-tiles none d = over (next-end s d)
+  other-tiles (more w r) d = first-tile (other-any w) d (λ e f. other-tiles r f)
+
+  pub tiles : {p : ℕ} {ts : List Placed} {os : List ℕ} {ys : List read.Statement} → File ts os ys → Tokens s 0 ts (end p) → Tiled s 0 os ys
+  tiles (file w r) d = first-tile (job-any w) d (λ e f. other-tiles r f)
+
+-- there is one way to tile a file
+pub one-tiling : {s : List ℕ} {i : ℕ} {os : List ℕ} {xs ys : List read.Statement} → Tiled s i os xs → Tiled s i os ys → xs ≡ ys
+one-tiling (over e) (over f) = refl
+one-tiling {s} (tile {e = a} {x = x} {os = os} {ys = xs} n r t) (tile {e = b} {x = y} {ys = ys} m q u) =
+    let h : placed x _ a ≡ placed y _ b = same-read (sym r ∙ q) in
+    let g : b ≡ a = ap (λ (w : StatementAt). w .next) (sym h) in
+    ap₂ (λ (z : Statement) (zs : List read.Statement). paperStatement z ∷ zs) (ap (λ (w : StatementAt). w .statement) h)
+    (one-tiling t (subst (λ (k : ℕ). Tiled s k os ys) g u))

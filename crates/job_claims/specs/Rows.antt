@@ -3,30 +3,29 @@
 use Prim.Native.Nat.{ℕ}
 use mathlib.Core.Path.{_≡_}
 use mathlib.Core.List.{List, [], _∷_, _++_}
-use Rattle.grammar.specs.Grammar.{Class}
-use Rattle.grammar.specs.Productions.{Placed, classes, Any, Ended}
+use Rattle.grammar.specs.Statement.{Statement}
+use Rattle.grammar.specs.Productions.{Placed, Any, Ended}
 use Rattle.grammar.specs.Reading.{Last}
 use Rattle.grammar.specs.Reading.Last.{end, broken}
 use Rattle.grammar.specs.Rows.{real, Stands}
-use Rattle.item.specs.Tokens.{nextItem}
-use Rattle.item.specs.Tokens.Next.{item}
+use Rattle.item.specs.Tokens.{After}
 
 -- the tokens a are a whole statement
 abbrev pub WholeOne : List Placed → Type 0
-WholeOne a = Ended Any (classes a)
+WholeOne a = (y : Statement) × Ended Any a y
 
 -- some statement begins with the tokens a
 abbrev pub Opens : List Placed → Type 0
-Opens a = (r : List Class) × Ended Any (classes a ++ r)
+Opens a = (r : List Placed) × WholeOne (a ++ r)
 
--- from the place i on the next tokens are a, and e is the place after the last of them
-pub data After (s : List ℕ) : ℕ → List Placed → ℕ → Type 0 where
-  here : {i : ℕ} → After s i [] i
-  then : {i b e : ℕ} {t : Placed} {a : List Placed} → nextItem s i ≡ item t b → After s b a e → After s i (t ∷ a) e
-
--- a whole statement, and the place after its `;`
-abbrev pub One : List ℕ → ℕ → ℕ → Type 0
-One s at e = (a : List Placed) × After s at a e × WholeOne a
+-- The tokens from the place `at` on, up to and including their first `;`, are a statement that reads y. It begins at o, its first token's place,
+-- and e is the place after its `;`.
+pub record One (s : List ℕ) (at : ℕ) (y : Statement) (o e : ℕ) : Type 0 where
+  pub first : Placed
+  pub more : List Placed
+  pub stand : After s at (first ∷ more) e
+  pub reads : Ended Any (first ∷ more) y
+  pub begins : first .place ≡ o
 
 -- 3: "the next bytes are no token"
 abbrev pub OneThree : List Placed → Last → ℕ → Type 0

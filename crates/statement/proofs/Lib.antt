@@ -5,3 +5,4 @@ pub mod Forget
 pub mod Words
 pub mod From
 pub mod Readings
+pub mod Lossless
