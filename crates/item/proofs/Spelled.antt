@@ -24,6 +24,7 @@ use Rattle.grammar.specs.Reading.Last.{end, broken}
 use Rattle.grammar.specs.Productions.{Said, Placed, classes, Legal, Begins}
 use Rattle.grammar.proofs.Relabel.{relabel}
 use Rattle.item.specs.Tokens.{at, wordClass, clauseClass, abortClass, numberClass, timeNumber, itemOf, nextItem, Tokens}
+use Rattle.item.specs.Files.{InFile}
 use Rattle.item.specs.Tokens.Next.{item, ended}
 use Rattle.item.specs.Tokens.Tokens.{at-end, no-token, then}
 use Rattle.item.proofs.Shifted.{next-item-up}
@@ -147,17 +148,6 @@ spelled [] = at-the-end (text []) 0 1 blank-file
 spelled (c ∷ cs) =
     first-is (text (c ∷ cs)) 0 c 1 (suc (length (spell c))) (first-token c (rest cs) .1 .0) cs (first-item c (rest cs))
     (spelled-after (32 ∷ spell c) (text cs) cs (spelled cs))
-
--- Some legal file has tokens of the classes of a, and then others; the byte limit is put aside.
-pub record InFile (a : List Placed) : Type 0 where
-  pub bytes : List ℕ
-  pub tokens : List Placed
-  pub place : ℕ
-  pub read : Tokens bytes 0 tokens (end place)
-  pub offsets : List ℕ
-  pub legal : Legal tokens offsets
-  pub more : List Placed
-  pub goes-on : classes tokens ≡ classes (a ++ more)
 
 -- What may stand by its tokens may stand in a file, and the other way.
 pub in-file-exactly : (a : List Placed) → Begins a ↔ InFile a
