@@ -52,8 +52,8 @@ static const char *session_file(uint32_t number, uint32_t kind) {
 
 /* The program's number and the job of each command, one to a line. */
 static bool read_request(FILE *f, struct session *s) {
-    if (fscanf(f, "%9u", &s->program) == 1)
-        while (s->count <= RB_COMMANDS && fscanf(f, "%63s%*[^\n]", s->jobs[s->count]) == 1) s->count++;
+    if (fscanf(f, "%9u%*[^\n]", &s->program) == 1)
+        while (s->count <= RB_COMMANDS && fscanf(f, " %63[^\r\n]%*[^\n]", s->jobs[s->count]) == 1) s->count++;
     return !ferror(f);
 }
 
@@ -103,14 +103,15 @@ static void show_statement(const uint8_t *file, size_t n, uint32_t offset) {
     printf("\n");
 }
 
-/* Reads a job file of the share: RB_DONE, or what it is refused with. A name that leads elsewhere or to no file is out of range. */
+/* Reads a job file of the share: RB_DONE, or what it is refused with. A name that fills its place, and so may be cut, is out of range, and
+ * so is one that leads elsewhere or to no file. */
 static uint32_t run_job(const char *name) {
     static uint8_t file[RB_FILE_BYTES + 1];
     uint32_t offsets[RB_STATEMENTS];
     size_t statements, n;
     char path[400];
     snprintf(path, sizeof path, "%s/%s", share, name);
-    FILE *f = strchr(name, '/') ? NULL : fopen(path, "rb");
+    FILE *f = strlen(name) > 62 || strchr(name, '/') ? NULL : fopen(path, "rb");
     if (!f) return RB_OUT_OF_RANGE;
     n = fread(file, 1, sizeof file, f);
     bool was_read = !ferror(f);
