@@ -58,7 +58,8 @@ static bool read_request(FILE *f, struct session *s) {
 }
 
 /* Places the request under the number n, if the share has one. It is placed in a copy of the table first: the number that the table gives
- * is the session's, and a file under another number would get the reply of somebody else. */
+ * is the session's, and a file under another number would get the reply of somebody else. A refused request stays where it is: its program
+ * waits under that number, and if the file were gone another program would take the number, and the first one its reply. */
 static void place_request(uint32_t n) {
     struct session s = {.count = 0};
     rb_session_number number;
