@@ -39,10 +39,15 @@ static size_t text_bytes;
 static uint32_t outcome;
 static uint8_t table[RB_TABLE_BYTES], saved[32];
 static size_t held; /* the row of the session that a call changes */
-static uint32_t program, ticket, command;
+static uint32_t program;
+static rb_ticket ticket;
+static rb_command_number command;
 
 static struct {
-    uint32_t returned, offsets[64], numbers[3];
+    uint32_t returned, offsets[64];
+    rb_session_number number;
+    rb_ticket ticket;
+    rb_command_number command;
     size_t count;
     uint8_t out[4096];
 } left;
@@ -140,8 +145,8 @@ static void sessions(uint32_t n, uint32_t count, uint32_t answered, bool last_st
     if (last_stands) session(n - 1, 3, count, answered);
     put(0, 32, n, n - 1, in_hand ? n : 0);
     program = 3;
-    ticket = n;
-    command = answered + 1;
+    ticket.n = n;
+    command.n = answered + 1;
     keep(n - 1);
 }
 
@@ -152,9 +157,9 @@ enum call { READ, WRITE, PLACE, TAKE_UP, ANSWER, COLLECT };
 static void ours(enum call call) {
     switch (call) {
     case READ: left.returned = rb_read_job(file, file_bytes, left.offsets, 64, &left.count); break;
-    case WRITE: left.returned = rb_write_record(17, outcome, 7, 120045, text, text_bytes, 20240430, 60000, left.out, 400, &left.count); break;
-    case PLACE: left.returned = rb_place(table, sizeof table, 5, 12, &left.numbers[0], &left.numbers[1]); restore(); break;
-    case TAKE_UP: left.returned = rb_take_up(table, sizeof table, &left.numbers[0], &left.numbers[1], &left.numbers[2]); restore(); break;
+    case WRITE: left.returned = rb_write_record((rb_command_number){17}, outcome, 7, 120045, text, text_bytes, 20240430, 60000, left.out, 400, &left.count); break;
+    case PLACE: left.returned = rb_place(table, sizeof table, 5, 12, &left.number, &left.ticket); restore(); break;
+    case TAKE_UP: left.returned = rb_take_up(table, sizeof table, &left.number, &left.ticket, &left.command); restore(); break;
     case ANSWER: left.returned = rb_answer(table, sizeof table, ticket, command, 1, 7, 120045, 20240430, 60000); restore(); break;
     case COLLECT: left.returned = rb_collect(table, sizeof table, program, ticket, left.out, sizeof left.out, &left.count); restore(); break;
     }
@@ -164,10 +169,10 @@ static void theirs(enum call call) {
     switch (call) {
     case READ: left.returned = plain_read_job(file, file_bytes, left.offsets, 64, &left.count); break;
     case WRITE: left.returned = plain_write_record(17, outcome, 7, 120045, text, text_bytes, 20240430, 60000, left.out, 400, &left.count); break;
-    case PLACE: left.returned = plain_place(table, sizeof table, 5, 12, &left.numbers[0], &left.numbers[1]); restore(); break;
-    case TAKE_UP: left.returned = plain_take_up(table, sizeof table, &left.numbers[0], &left.numbers[1], &left.numbers[2]); restore(); break;
-    case ANSWER: left.returned = plain_answer(table, sizeof table, ticket, command, 1, 7, 120045, 20240430, 60000); restore(); break;
-    case COLLECT: left.returned = plain_collect(table, sizeof table, program, ticket, left.out, sizeof left.out, &left.count); restore(); break;
+    case PLACE: left.returned = plain_place(table, sizeof table, 5, 12, &left.number.n, &left.ticket.n); restore(); break;
+    case TAKE_UP: left.returned = plain_take_up(table, sizeof table, &left.number.n, &left.ticket.n, &left.command.n); restore(); break;
+    case ANSWER: left.returned = plain_answer(table, sizeof table, ticket.n, command.n, 1, 7, 120045, 20240430, 60000); restore(); break;
+    case COLLECT: left.returned = plain_collect(table, sizeof table, program, ticket.n, left.out, sizeof left.out, &left.count); restore(); break;
     }
 }
 

@@ -1,26 +1,37 @@
-/* A small gateway over a folder that stands for the share: gateway SHARE DATE TIME (yyyymmdd hhmmss).
+/* A small gateway over a folder that stands for the share: gateway SHARE. Each line of its input is a round and gives its date and time
+ * (yyyymmdd hhmmss), as a timer and a clock would.
  *
  * A host program puts SESSnnnn.REQ there. In this example its first line is the program's number, and each further line names a job
- * file, which is one command. The gateway places each request, takes the commands up one after the other, reads each job file, answers,
- * and writes the reply as SESSnnnn.RSP when it collects. */
+ * file, which is one command. The gateway places the request, takes the commands up one after the other, reads each job file, answers,
+ * and writes the reply as SESSnnnn.RSP. The program reads its reply and removes it: so it collects, and only then do the request and the
+ * number go. A request that cannot be served is left alone, with a line in the log: one that is refused, and one under another number than
+ * the table gives, which is the lowest open one.
+ *
+ * The table lives as long as this program does. A gateway that may be started anew while sessions stand must keep the table's bytes, and
+ * what struct session holds, where they outlive it. */
+#include <errno.h>
 #include <stdio.h>
 #include <stdlib.h>
 #include <string.h>
 
 #include "raddlebrush.h"
 
-#define MAX_SESSIONS 4
+#define MAX_SESSIONS 8
 
-struct request {
-    uint32_t program, ticket, count;
-    char jobs[RB_COMMANDS][64];
+/* What the gateway knows of the session under a number; without a ticket there is none. */
+struct session {
+    rb_ticket ticket;
+    uint32_t program, count;
+    bool written;                   /* its reply stands in the share */
+    char jobs[RB_COMMANDS + 1][64]; /* of each command, and one place that shows that there are too many */
 };
 
-static uint8_t table[RB_TABLE_BYTES];
-static struct request requests[MAX_SESSIONS];
+static uint8_t table[RB_TABLE_BYTES], copy[RB_TABLE_BYTES];
+static struct session sessions[MAX_SESSIONS];
 static const char *share;
 static uint32_t date, time_of_day;
 
+/* For calls that have no reason to refuse. */
 static void must(uint32_t returned, const char *what) {
     if (returned == RB_DONE) return;
     printf("%s: refused with %u\n", what, rb_number(returned));
@@ -32,24 +43,51 @@ static const char *session_file(uint32_t number, uint32_t kind) {
     static char path[400];
     uint8_t name[RB_NAME_BYTES];
     size_t written;
-    must(rb_write_name(number, kind, MAX_SESSIONS, name, sizeof name, &written), "name");
+    must(rb_write_name((rb_session_number){number}, kind, MAX_SESSIONS, name, sizeof name, &written), "name");
     snprintf(path, sizeof path, "%s/%.*s", share, (int)written, (const char *)name);
     return path;
 }
 
-/* The number's request, if the share has one: placed in the table. */
-static void place_request(uint32_t n) {
-    struct request r = {0, 0, 0, {""}};
-    uint32_t number;
-    FILE *f = fopen(session_file(n, RB_REQUEST), "r");
-    if (!f) return;
-    if (fscanf(f, "%u", &r.program) == 1)
-        while (r.count < RB_COMMANDS && fscanf(f, "%63s", r.jobs[r.count]) == 1) r.count++;
-    fclose(f);
-    must(rb_place(table, sizeof table, r.program, r.count, &number, &r.ticket), "place");
-    printf("program %u placed session %u: ticket %u, %u commands\n", r.program, number, r.ticket, r.count);
-    requests[number] = r;
+/* ---- requests */
+
+/* The program's number and the job of each command, one to a line. */
+static bool read_request(FILE *f, struct session *s) {
+    if (fscanf(f, "%9u%*[^\n]", &s->program) == 1)
+        while (s->count <= RB_COMMANDS && fscanf(f, " %63[^\r\n]%*[^\n]", s->jobs[s->count]) == 1) s->count++;
+    return !ferror(f);
 }
+
+/* Places the request under the number n, if the share has one. It is placed in a copy of the table first: the number that the table gives
+ * is the session's, and a file under another number would get the reply of somebody else. A refused request stays where it is: its program
+ * waits under that number, and if the file were gone another program would take the number, and the first one its reply. */
+static void place_request(uint32_t n) {
+    struct session s = {.count = 0};
+    rb_session_number number;
+    if (sessions[n].ticket.n) return;
+    FILE *f = fopen(session_file(n, RB_REQUEST), "r");
+    if (!f && errno == ENOENT) return;
+    bool was_read = f && read_request(f, &s);
+    if (f) fclose(f);
+    if (!was_read) {
+        printf("request %u left alone: it cannot be read\n", n);
+        return;
+    }
+    memcpy(copy, table, sizeof table);
+    uint32_t no = rb_place(copy, sizeof copy, s.program, s.count, &number, &s.ticket);
+    if (no != RB_DONE) {
+        printf("request %u left alone: program %u, %u commands, refused with %u\n", n, s.program, s.count, rb_number(no));
+        return;
+    }
+    if (number.n != n) {
+        printf("request %u left alone: the table gives %u\n", n, number.n);
+        return;
+    }
+    memcpy(table, copy, sizeof table);
+    sessions[n] = s;
+    printf("session %u: placed by program %u with ticket %u, %u commands\n", n, s.program, s.ticket.n, s.count);
+}
+
+/* ---- commands */
 
 static void show_statement(const uint8_t *file, size_t n, uint32_t offset) {
     static const char *const kinds[] = {"", "JOB", "UPLOAD", "DOWNLOAD", "GETINFO", "ABORT"};
@@ -66,59 +104,99 @@ static void show_statement(const uint8_t *file, size_t n, uint32_t offset) {
     printf("\n");
 }
 
-/* Reads a job file: 0, or what its reading was refused with. */
+/* Reads a job file of the share: RB_DONE, or what it is refused with. A name that fills its place, and so may be cut, is out of range, and
+ * so is one that leads elsewhere or to no file. */
 static uint32_t run_job(const char *name) {
     static uint8_t file[RB_FILE_BYTES + 1];
     uint32_t offsets[RB_STATEMENTS];
     size_t statements, n;
     char path[400];
     snprintf(path, sizeof path, "%s/%s", share, name);
-    FILE *f = fopen(path, "rb");
-    if (!f) return RB_UNEXPECTED;
+    FILE *f = strlen(name) > 62 || strchr(name, '/') ? NULL : fopen(path, "rb");
+    if (!f) return RB_OUT_OF_RANGE;
     n = fread(file, 1, sizeof file, f);
+    bool was_read = !ferror(f);
     fclose(f);
+    if (!was_read) return RB_OUT_OF_RANGE;
     uint32_t no = rb_read_job(file, n, offsets, RB_STATEMENTS, &statements);
-    if (no != RB_DONE) {
-        printf("    refused: %u at %u\n", rb_number(no), rb_place_of(no));
-        return no;
-    }
+    if (no != RB_DONE) return no;
     for (size_t i = 0; i < statements; i++) show_statement(file, n, offsets[i]);
     return RB_DONE;
 }
 
-static void serve(uint32_t number, uint32_t ticket, uint32_t command) {
-    const char *job = requests[number].jobs[command - 1];
-    printf("session %u, command %u: %s\n", number, command, job);
+static void serve(rb_session_number number, rb_ticket ticket, rb_command_number command) {
+    const char *job = sessions[number.n].jobs[command.n - 1];
+    printf("session %u, command %u: %s\n", number.n, command.n, job);
     uint32_t no = run_job(job);
-    must(rb_answer(table, sizeof table, ticket, command, no == RB_DONE ? RB_PROCESSED : RB_ERROR, 1, rb_number(no), date, time_of_day), "answer");
+    if (no != RB_DONE) printf("    refused: %u at %u\n", rb_number(no), rb_place_of(no));
+    uint32_t outcome = no == RB_DONE ? RB_PROCESSED : RB_ERROR;
+    must(rb_answer(table, sizeof table, ticket, command, outcome, 1, rb_number(no), date, time_of_day), "answer");
 }
 
-/* Collects a reply, and only then lets the request go. */
-static void collect_reply(uint32_t number) {
-    struct request *r = &requests[number];
+/* ---- replies */
+
+/* Writes the reply of a session that is closed, where no reply lies. A collected reply is gone from the table, so it is taken from a copy:
+ * what cannot be written yet is there in the next round. */
+static void write_reply(uint32_t n) {
+    struct session *s = &sessions[n];
     uint8_t reply[RB_REPLY_BYTES];
-    size_t written;
-    if (!r->ticket) return;
-    uint32_t other = r->program % RB_PROGRAMS + 1;
-    printf("program %u asks for ticket %u: %u\n", other, r->ticket, rb_collect(table, sizeof table, other, r->ticket, reply, sizeof reply, &written));
-    must(rb_collect(table, sizeof table, r->program, r->ticket, reply, sizeof reply, &written), "collect");
-    FILE *f = fopen(session_file(number, RB_RESPONSE), "wb");
-    if (!f || fwrite(reply, 1, written, f) != written || fclose(f)) exit(1);
-    remove(session_file(number, RB_REQUEST));
-    printf("program %u collected session %u: %u bytes\n", r->program, number, (unsigned)written);
-    printf("program %u asks for ticket %u again: %u\n", r->program, r->ticket,
-           rb_collect(table, sizeof table, r->program, r->ticket, reply, sizeof reply, &written));
+    size_t count;
+    if (!s->ticket.n || s->written) return;
+    memcpy(copy, table, sizeof table);
+    if (rb_collect(copy, sizeof copy, s->program, s->ticket, reply, sizeof reply, &count) != RB_DONE) return;
+    FILE *f = fopen(session_file(n, RB_RESPONSE), "wbx");
+    if (!f) {
+        printf("session %u: its reply waits, %s\n", n, errno == EEXIST ? "an unread one lies there" : "it cannot be written");
+        return;
+    }
+    bool whole = fwrite(reply, 1, count, f) == count;
+    s->written = fclose(f) == 0 && whole;
+    if (!s->written) remove(session_file(n, RB_RESPONSE));
+    printf("session %u: %s\n", n, s->written ? "its reply is written" : "its reply waits, it cannot be written");
+}
+
+static bool is_gone(const char *path) {
+    FILE *f = fopen(path, "rb");
+    if (!f) return errno == ENOENT;
+    fclose(f);
+    return false;
+}
+
+/* Collects for a program that has removed its reply, and lets the request and the number go. Where the request is gone as well the number
+ * stays taken, since a share that is out of reach looks like that. */
+static void let_go(uint32_t n) {
+    struct session *s = &sessions[n];
+    uint8_t reply[RB_REPLY_BYTES];
+    size_t count;
+    if (!s->written || !is_gone(session_file(n, RB_RESPONSE))) return;
+    if (remove(session_file(n, RB_REQUEST))) {
+        printf("session %u: its number stays taken, its request cannot be removed\n", n);
+        return;
+    }
+    must(rb_collect(table, sizeof table, s->program, s->ticket, reply, sizeof reply, &count), "collect");
+    printf("session %u: program %u has its reply, the number is open again\n", n, s->program);
+    memset(s, 0, sizeof *s);
+}
+
+static void a_round(void) {
+    rb_session_number number;
+    rb_ticket ticket;
+    rb_command_number command;
+    for (uint32_t n = 0; n < MAX_SESSIONS; n++) let_go(n);
+    for (uint32_t n = 0; n < MAX_SESSIONS; n++) place_request(n);
+    while (rb_take_up(table, sizeof table, &number, &ticket, &command) == RB_DONE) serve(number, ticket, command);
+    for (uint32_t n = 0; n < MAX_SESSIONS; n++) write_reply(n);
 }
 
 int main(int argc, char **argv) {
-    uint32_t number, ticket, command;
-    if (argc != 4) return 2;
+    if (argc != 2 || strlen(argv[1]) > 300) return 2;
     share = argv[1];
-    date = (uint32_t)strtoul(argv[2], 0, 10);
-    time_of_day = (uint32_t)strtoul(argv[3], 0, 10);
     must(rb_make(table, sizeof table, MAX_SESSIONS), "make");
-    for (uint32_t n = 0; n < MAX_SESSIONS; n++) place_request(n);
-    while (rb_take_up(table, sizeof table, &number, &ticket, &command) == RB_DONE) serve(number, ticket, command);
-    for (uint32_t n = 0; n < MAX_SESSIONS; n++) collect_reply(n);
+    while (scanf("%u %u", &date, &time_of_day) == 2) {
+        if (rb_is_real_date(date) && rb_is_real_time(time_of_day)) a_round();
+        else printf("no round: the clock gives no real date and time\n");
+        printf("--\n");
+        fflush(stdout);
+    }
     return 0;
 }

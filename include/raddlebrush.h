@@ -58,6 +58,13 @@ static inline uint32_t rb_place_of(uint32_t returned) { return returned / 256u; 
 #define RB_REPLY_BYTES 3319u  /* the longest reply: 64 ERROR records without text */
 #define RB_TABLE_BYTES 33296u /* a session table, for every MaxSessions */
 
+/* ---- three counts kept apart: each is a structure of one number, so that a compiler refuses one where another is due. It is passed as
+ * the number is, and where it lies the number lies. */
+
+typedef struct { uint32_t n; } rb_session_number; /* from 0 on, below MaxSessions */
+typedef struct { uint32_t n; } rb_command_number; /* from 1 on */
+typedef struct { uint32_t n; } rb_ticket;         /* from 1 on */
+
 /* ---- job files */
 
 /* Reads a whole job file, and puts the offset of each statement into offsets and their count into *statements. Places beyond stay.
@@ -138,8 +145,8 @@ bool rb_is_real_time(uint32_t time);
 /* Writes a record at the start of out, and its length into *count. The class and code of RB_PROCESSED are not looked at; an outcome
  * that is neither is out of range.
  * RB_NOT_A_RECORD (number, outcome, class, code, text), RB_NOT_REAL (date, time), RB_TOO_LITTLE_ROOM. */
-uint32_t rb_write_record(uint32_t number, uint32_t outcome, uint32_t error_class, uint32_t code, const uint8_t *text, size_t text_bytes,
-                         uint32_t date, uint32_t time, uint8_t *out, size_t room, size_t *count);
+uint32_t rb_write_record(rb_command_number number, uint32_t outcome, uint32_t error_class, uint32_t code, const uint8_t *text,
+                         size_t text_bytes, uint32_t date, uint32_t time, uint8_t *out, size_t room, size_t *count);
 
 /* The fields of a record that is read. Its text is RB_RECORD_TEXT_LENGTH bytes of the input from RB_RECORD_TEXT on. */
 #define RB_RECORD_NUMBER 0
@@ -161,32 +168,32 @@ uint32_t rb_read_record(const uint8_t *bytes, size_t count, uint64_t fields[RB_R
 #define RB_RESPONSE 1u
 
 /* Reads a file name of a table with that MaxSessions. RB_OUT_OF_RANGE. */
-uint32_t rb_read_name(const uint8_t *name, size_t name_bytes, uint32_t max, uint32_t *number, uint32_t *kind);
+uint32_t rb_read_name(const uint8_t *name, size_t name_bytes, uint32_t max, rb_session_number *number, uint32_t *kind);
 
 /* Writes a file name of RB_NAME_BYTES at the start of out. RB_OUT_OF_RANGE (MaxSessions, number, kind), RB_TOO_LITTLE_ROOM. */
-uint32_t rb_write_name(uint32_t number, uint32_t kind, uint32_t max, uint8_t *out, size_t room, size_t *count);
+uint32_t rb_write_name(rb_session_number number, uint32_t kind, uint32_t max, uint8_t *out, size_t room, size_t *count);
 
-/* ---- the session table, in RB_TABLE_BYTES lent bytes. Session numbers, command numbers and tickets are three counts: a ticket names one
- * placing for ever, a number is used again once its reply is collected. */
+/* ---- the session table, in RB_TABLE_BYTES lent bytes. A ticket names one placing for ever; a session's number is used again once its
+ * reply is collected. */
 
 /* Makes a fresh table for MaxSessions 1 to 32, whatever the bytes were. RB_OUT_OF_RANGE, RB_UNSOUND (not a table's size). */
 uint32_t rb_make(uint8_t *table, size_t table_bytes, uint32_t max);
 
 /* Places a session of a program (1 to 8) with that many commands (1 to 64).
  * RB_UNSOUND, RB_OUT_OF_RANGE, RB_ALL_TAKEN, RB_NO_TICKET_LEFT. */
-uint32_t rb_place(uint8_t *table, size_t table_bytes, uint32_t program, uint32_t count, uint32_t *number, uint32_t *ticket);
+uint32_t rb_place(uint8_t *table, size_t table_bytes, uint32_t program, uint32_t count, rb_session_number *number, rb_ticket *ticket);
 
 /* Takes up the next command, or gives the one in hand again. RB_UNSOUND, RB_NOTHING_UNANSWERED. */
-uint32_t rb_take_up(uint8_t *table, size_t table_bytes, uint32_t *number, uint32_t *ticket, uint32_t *command);
+uint32_t rb_take_up(uint8_t *table, size_t table_bytes, rb_session_number *number, rb_ticket *ticket, rb_command_number *command);
 
 /* Answers the command in hand. The class and code of RB_PROCESSED are not looked at; an outcome that is neither is out of range.
  * RB_UNSOUND, RB_NOT_THE_ONE, RB_NOT_REAL, RB_NOT_A_RECORD. */
-uint32_t rb_answer(uint8_t *table, size_t table_bytes, uint32_t ticket, uint32_t command, uint32_t outcome, uint32_t error_class, uint32_t code,
-                   uint32_t date, uint32_t time);
+uint32_t rb_answer(uint8_t *table, size_t table_bytes, rb_ticket ticket, rb_command_number command, uint32_t outcome, uint32_t error_class,
+                   uint32_t code, uint32_t date, uint32_t time);
 
 /* Writes the reply of a closed session, its records in order without text, at the start of out, and its length into *count. Its number
  * is open again. RB_UNSOUND, RB_OUT_OF_RANGE (program), RB_NOT_THE_ONE, RB_TOO_LITTLE_ROOM. */
-uint32_t rb_collect(uint8_t *table, size_t table_bytes, uint32_t program, uint32_t ticket, uint8_t *out, size_t room, size_t *count);
+uint32_t rb_collect(uint8_t *table, size_t table_bytes, uint32_t program, rb_ticket ticket, uint8_t *out, size_t room, size_t *count);
 
 /* A table's bytes, for who must look into one: rows of four numbers, each of four bytes, low byte first. Row 0: MaxSessions, the last
  * ticket, the number last taken up, and what is in hand (0, or one more than the session's number). Then for each session 65 rows. Its

@@ -1,5 +1,5 @@
 //! Holds include/raddlebrush.h against the Rattle source: each exported call with the names, the number and the widths of its parameters,
-//! and each constant. Run in the repository's root.
+//! the three counts each with its type, and each constant. Run in the repository's root.
 
 use std::collections::BTreeMap;
 use std::fs;
@@ -18,6 +18,10 @@ fn squeezed(text: &str) -> String {
     text.split_whitespace().collect::<Vec<_>>().join(" ")
 }
 
+/// The structures of the header, and what each holds one of.
+const COUNTS: [&str; 3] = ["rb_session_number", "rb_command_number", "rb_ticket"];
+const COUNT: &str = "uint32_t";
+
 // ---- the Rattle side
 
 fn number_type(t: &str) -> &str {
@@ -32,17 +36,30 @@ fn number_type(t: &str) -> &str {
     }
 }
 
+/// The header's type of a number: session numbers, command numbers and tickets are known by their names, and have a structure each.
+fn parameter_type<'a>(call: &str, name: &str, t: &'a str) -> &'a str {
+    let number = number_type(t);
+    let count = match (call, name) {
+        ("rb_write_record", "number") | (_, "command") => "rb_command_number",
+        (_, "number") => "rb_session_number",
+        (_, "ticket") => "rb_ticket",
+        _ => return number,
+    };
+    assert_eq!(number, COUNT, "{call}: {name}");
+    count
+}
+
 /// The C parameters of one of Rattle's: a slice is a pointer and a length.
-fn parameters(name: &str, t: &str) -> Vec<String> {
+fn parameters(call: &str, name: &str, t: &str) -> Vec<String> {
     let (constant, behind) = match t.strip_prefix("&mut ") {
         Some(rest) => ("", rest),
         None => match t.strip_prefix('&') {
             Some(rest) => ("const ", rest),
-            None => return vec![format!("{} {name}", number_type(t))],
+            None => return vec![format!("{} {name}", parameter_type(call, name, t))],
         },
     };
     match behind.strip_prefix('[').and_then(|b| b.strip_suffix(']')) {
-        None => vec![format!("{constant}{} *{name}", number_type(behind))],
+        None => vec![format!("{constant}{} *{name}", parameter_type(call, name, behind))],
         Some(slice) => match slice.split_once("; ") {
             None => vec![format!("{constant}{} *{name}", number_type(slice)), "size_t".into()],
             Some((element, count)) => vec![format!("{constant}{} {name}[{count}]", number_type(element))],
@@ -57,8 +74,8 @@ fn rattle_calls(text: &str) -> Calls {
         let (inner, rest) = rest.split_once(')').unwrap();
         let given = inner.split(',').map(squeezed).filter(|p| !p.is_empty());
         let taken = given.flat_map(|p| {
-            let (name, t) = p.split_once(": ").unwrap();
-            parameters(name, t)
+            let (parameter, t) = p.split_once(": ").unwrap();
+            parameters(name, parameter, t)
         });
         let returned = rest.trim_start().strip_prefix("-> ").expect("every call returns a number").split_whitespace().next().unwrap();
         calls.insert(name.to_string(), (taken.collect(), number_type(returned).to_string()));
@@ -152,6 +169,12 @@ fn main() {
     for (name, value) in &constants {
         if known.get(name) != Some(value) {
             println!("RB_{name} is {value} in the header, and {:?} in the source", known.get(name));
+            faults += 1;
+        }
+    }
+    for name in COUNTS {
+        if !header.contains(&format!("typedef struct {{ {COUNT} n; }} {name};")) {
+            println!("{name} is not a structure of one {COUNT}");
             faults += 1;
         }
     }

@@ -133,27 +133,32 @@ static void changes_out(void) {
 static void table_call(int call) {
     uint8_t *t = table.all + 32;
     size_t n = table.bytes, written = 77;
-    uint32_t number = 77, ticket = 77, command = 77;
+    rb_session_number number = {77};
+    rb_ticket ticket = {77};
+    rb_command_number command = {77};
     uint64_t a[8];
     int arguments = call == 'm' ? 1 : call == 'p' ? 2 : call == 'u' ? 0 : call == 'a' ? 7 : 3;
     for (int i = 0; i < arguments; i++) a[i] = number_in();
 #define A(i) (uint32_t)a[i]
+#define TICKET(i) (rb_ticket){A(i)}
+#define COMMAND(i) (rb_command_number){A(i)}
+#define SESSION(i) (rb_session_number){A(i)}
     if (call == 'm') number_out(rb_make(t, n, A(0)));
     if (call == 'p') number_out(rb_place(t, n, A(0), A(1), &number, &ticket));
     if (call == 'u') number_out(rb_take_up(t, n, &number, &ticket, &command));
-    if (call == 'a') number_out(rb_answer(t, n, A(0), A(1), A(2), A(3), A(4), A(5), A(6)));
+    if (call == 'a') number_out(rb_answer(t, n, TICKET(0), COMMAND(1), A(2), A(3), A(4), A(5), A(6)));
     if (call == 'c') {
         uint8_t *room = lend(&first, (size_t)a[2]);
         memset(room, 0x5A, first.bytes);
-        number_out(rb_collect(t, n, A(0), A(1), room, first.bytes, &written));
+        number_out(rb_collect(t, n, A(0), TICKET(1), room, first.bytes, &written));
         number_out(written);
         lent_out(&first);
     }
     if (call == 'p' || call == 'u') {
-        number_out(number);
-        number_out(ticket);
+        number_out(number.n);
+        number_out(ticket.n);
     }
-    if (call == 'u') number_out(command);
+    if (call == 'u') number_out(command.n);
     changes_out();
 }
 
@@ -188,9 +193,10 @@ static void file_call(int call) {
         for (int i = 0; i < RB_RECORD_FIELDS; i++) number_out(fields[i]);
     }
     if (call == 'N') {
-        uint32_t number = 77, kind = 77;
+        rb_session_number number = {77};
+        uint32_t kind = 77;
         number_out(rb_read_name(file, n, U32, &number, &kind));
-        number_out(number);
+        number_out(number.n);
         number_out(kind);
     }
     if (call == 'W') {
@@ -199,7 +205,7 @@ static void file_call(int call) {
         uint8_t *room = lend(&second, (size_t)a[6]);
         size_t written = 77;
         memset(room, 0x5A, second.bytes);
-        number_out(rb_write_record(A(0), A(1), A(2), A(3), file, n, A(4), A(5), room, second.bytes, &written));
+        number_out(rb_write_record(COMMAND(0), A(1), A(2), A(3), file, n, A(4), A(5), room, second.bytes, &written));
         number_out(written);
         lent_out(&second);
     }
@@ -212,7 +218,7 @@ static void name_written(void) {
     uint8_t *room = lend(&first, (size_t)a[3]);
     size_t written = 77;
     memset(room, 0x5A, first.bytes);
-    number_out(rb_write_name(A(0), A(1), A(2), room, first.bytes, &written));
+    number_out(rb_write_name(SESSION(0), A(1), A(2), room, first.bytes, &written));
     number_out(written);
     lent_out(&first);
 }
