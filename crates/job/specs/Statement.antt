@@ -14,7 +14,7 @@ use Rattle.grammar.specs.Statement as read
 use Rattle.item.specs.Tokens.{nextItem}
 use Rattle.item.specs.Tokens.Next.{ended}
 use Rattle.item.specs.Items.{itemAt}
-use Rattle.statement.specs.Paper.{paperStatement}
+use Rattle.meaning.specs.Paper.{paperStatement}
 use Rattle.statement.specs.Statement.{statementOf}
 use Rattle.statement.specs.declared.Statement.{Statement}
 use Rattle.statement.specs.declared.StatementRead.{StatementRead}

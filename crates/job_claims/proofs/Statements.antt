@@ -31,8 +31,8 @@ use Rattle.statement.proofs.Plain.Part.{whole, stopped}
 use Rattle.statement.proofs.Forget.{forget}
 use Rattle.statement.proofs.Words.{statement-is}
 use Rattle.statement.proofs.From.{statement-from}
-use Rattle.statement.proofs.Lossless.{one-statement}
-use Rattle.statement.specs.Paper.{paperStatement}
+use Rattle.meaning.proofs.Lossless.{one-statement}
+use Rattle.meaning.specs.Paper.{paperStatement}
 use Rattle.job.specs.Statement.{placed, onRead, statementIn, readStatement}
 use Rattle.job.specs.declared.StatementAt.{StatementAt}
 use Rattle.job_claims.specs.Rows.{WholeOne, One, OneThree, OneFourEnd, OneFourToken, OneFive}

@@ -30,9 +30,9 @@ use Rattle.item.proofs.Shows.{from-there}
 use Rattle.item.proofs.Tells.{tells}
 use Rattle.statement.specs.Statement.{statementOf}
 use Rattle.statement.specs.declared.Statement.{Statement}
-use Rattle.statement.specs.Paper.{paperStatement}
+use Rattle.meaning.specs.Paper.{paperStatement}
 use Rattle.statement.proofs.From.{statement-from}
-use Rattle.statement.proofs.Readings.{StatementReads, statement-reads}
+use Rattle.meaning.proofs.Readings.{StatementReads, statement-reads}
 use Rattle.job.specs.declared.StatementAt.{StatementAt}
 use Rattle.job.specs.Statement.{placed, onRead, readStatement, Tiled}
 use Rattle.job.specs.Statement.Tiled.{over, tile}

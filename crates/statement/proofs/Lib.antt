@@ -4,5 +4,3 @@ pub mod Bridge
 pub mod Forget
 pub mod Words
 pub mod From
-pub mod Readings
-pub mod Lossless

@@ -7,19 +7,19 @@ use Rattle.token.specs.declared.Operator.{Operator}
 use Rattle.token.specs.declared.Operator.the-variants.{Equal, NotEqual, Above, Below, AtLeast, AtMost}
 use Rattle.grammar.specs.Statement as read
 use Rattle.item.specs.Tokens.{paperNumber, paperOperator}
 use Rattle.statement.specs.declared.Part.{Part}
 use Rattle.statement.specs.declared.Source.{Source}
 use Rattle.statement.specs.declared.Source.the-variants.{Active, File, Name}
 use Rattle.statement.specs.declared.Day.the-variants.{Any, On}
 use Rattle.statement.specs.declared.Operand.{Operand}
 use Rattle.statement.specs.declared.Operand.the-variants.{Number, Text}
 use Rattle.statement.specs.declared.Start.{Start}
 use Rattle.statement.specs.declared.Start.the-variants.{Immediate, At, When}
 use Rattle.statement.specs.declared.Aborted.the-variants.{Report, Event}
 use Rattle.statement.specs.declared.Statement.{Statement}
 use Rattle.statement.specs.declared.Statement.the-variants.{Job, Upload, Download, GetInfo, Abort}
-use Rattle.statement.specs.Paper.{paperName, paperSource, paperValue, paperStart, paperStatement}
+use Rattle.meaning.specs.Paper.{paperName, paperSource, paperValue, paperStart, paperStatement}
 use Rattle.statement.specs.Statement.{condition}
 
 part : read.Name → Part
 part n = record { place = n .place; length = n .end - n .place }

@@ -22,23 +22,23 @@ use Rattle.item.specs.Tokens.After.{here, then}
 use Rattle.item.specs.Items.{itemAt}
 use Rattle.item.specs.declared.Item.{Item}
 use Rattle.item.proofs.Tells.{Tells, tells, told-class}
 use Rattle.statement.specs.declared.Part.{Part}
 use Rattle.statement.specs.declared.Source.{Source}
 use Rattle.statement.specs.declared.Source.the-variants.{Active, File, Name}
 use Rattle.statement.specs.declared.Day.the-variants.{Any, On}
 use Rattle.statement.specs.declared.Operand.{Operand}
 use Rattle.statement.specs.declared.Operand.the-variants.{Number, Text}
 use Rattle.statement.specs.declared.Start.{Start}
 use Rattle.statement.specs.declared.Start.the-variants.{Immediate, At, When}
 use Rattle.statement.specs.declared.Aborted.{Aborted}
 use Rattle.statement.specs.declared.Aborted.the-variants.{Report, Event}
 use Rattle.statement.specs.declared.Statement.{Statement}
 use Rattle.statement.specs.declared.Statement.the-variants.{Job, Upload, Download, GetInfo, Abort}
 use Rattle.statement.specs.declared.Transfer.{Transfer}
 use Rattle.statement.specs.declared.StatementRead.{StatementRead}
 use Rattle.statement.specs.declared.StatementRead.the-variants.{Is}
-use Rattle.statement.specs.Paper.{paperName, paperSource, paperValue, paperStart, paperStatement}
+use Rattle.meaning.specs.Paper.{paperName, paperSource, paperValue, paperStart, paperStatement}
 use Rattle.statement.specs.Statement.{oneOf, partOf, condition, transferred, transfer, ending, jobFile, jobResponse, jobName, startValue, startOperator, startDate, startTime, startKind, moveStart, moveSource, moveFile, infoFile, abortName, abortKind, statementOf}
 
 name-is : {t : Item} {u : Placed} → Tells t u → paperName (partOf t) ≡ nameAt u
 name-is h = ap₂ (λ (p e : ℕ). record { place = p; end = e }) (h .place) (h .spans)

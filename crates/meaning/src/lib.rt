@@ -1,0 +1,1 @@
+// What a statement means in document 01's terms: no function.
