@@ -14,8 +14,9 @@ use Rattle.field.specs.Bytes.{ascii, hasAt}
 use Rattle.field.proofs.Same.{has-room}
 use Rattle.scan.specs.Kinds.{isDigit, isLetter, isWordByte, isNumericByte, isTextByte}
 use Rattle.scan.specs.Run.{run, runEnd, blankEnd}
+use Rattle.scan.proofs.Runs.{run-fits}
 use Rattle.scan.proofs.Settled.{Onward, onward}
-use Rattle.token.specs.Token.{contentEnd, wordAt, textAt, isTextAt, isTimeAt, isNumberAt, shapedAt, numericAt, signAt, tokenAt, nextToken, Short}
+use Rattle.token.specs.Token.{contentEnd, contentFits, wordAt, textAt, isTextAt, isTimeAt, isNumberAt, shapedAt, numericAt, signAt, tokenAt, nextToken, Short}
 use Rattle.token.specs.declared.Operator.{Operator}
 use Rattle.token.specs.declared.Why.{Why}
 use Rattle.token.specs.declared.Token.{Token}
@@ -56,16 +57,6 @@ numeric-byte false u v w = refl
 short-of : (b x : Bool) (m n e : ℕ) → cond b (leb e m) (x && leb e n) ≡ true → m ≤ n → e ≤ n
 short-of true x m n e k l = omega (arith, leb-true e m k)
 short-of false x m n e k l = leb-true e n (and-right x (leb e n) k)
-
--- runs lie within the bytes
-run-fits : (p : ℕ → Bool) (xs : List ℕ) → run p xs ≤ length xs
-unfolding run
-run-fits p [] = omega arith
-run-fits p (x ∷ xs) = go (run-fits p xs) (p x) refl
-  where
-    go : run p xs ≤ length xs → (b : Bool) → p x ≡ b → run p (x ∷ xs) ≤ length (x ∷ xs)
-    go h true e = rw (run, e) (omega arith)
-    go h false e = rw (run, e) (omega arith)
 
 module _ (s : List ℕ) (i : ℕ) where
   either : (b : Bool) {x y : Token} → Ahead s i x → Ahead s i y → Ahead s i (cond b x y)
@@ -122,13 +113,11 @@ module _ (s : List ℕ) (i : ℕ) where
       (λ m. shaped i (omega arith) l (omega arith) (past isNumericByte l (rw (digit (isDigit (getD s i 0)) (eqb (getD s i 0) 45) e m) (numeric-byte (isLetter (getD s i 0)) (eqb (getD s i 0) 95) (eqb (getD s i 0) 46) (eqb (getD s i 0) 58)))))
 
   text : i < length s → Ahead s i (textAt s i)
-  unfolding textAt
+  unfolding textAt isTextAt
   text l =
-      either (leb (contentEnd s i - (i + 1)) textBytes)
-      (choice (Ahead s i) (eqb (getD s (contentEnd s i) 0) 34)
-      (λ e. a-text (omega (arith, from isTextByte (i + 1), in-range (λ b. eqb b 34) (contentEnd s i) refl e)))
-      (λ e. either (ltb (contentEnd s i) (length s)) (a-fault l) (a-fault l)))
-      (a-fault l)
+      choice (Ahead s i) (isTextAt s i)
+      (λ e. a-text (omega (arith, from isTextByte (i + 1), in-range (λ b. eqb b 34) (contentEnd s i) refl (and-right (eqb (getD s i 0) 34 && contentFits s i) (eqb (getD s (contentEnd s i) 0) 34) e))))
+      (λ e. either (contentFits s i && leb (length s) (contentEnd s i)) (a-fault l) (a-fault l))
 
   one : i < length s → Span s i (i + 1)
   one l = omega arith
