@@ -5,3 +5,4 @@ pub mod Ends
 pub mod Shifted
 pub mod Spelled
 pub mod Shows
+pub mod NumberTokens

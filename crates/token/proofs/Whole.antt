@@ -66,7 +66,8 @@ module _ (s : List ℕ) (i : ℕ) where
     rest = sym (drop-drop 1 i s) ∙ ap (λ (l : List ℕ). drop 1 l) (w .stands)
 
     counted : run isTextByte (drop (i + 1) s) ≡ length c
-    counted = rw rest (run-whole isTextByte c 34 (w .after) (λ b m. byte-text b (w .each b m)) refl)
+    unfolding run
+    counted = rw rest (run-whole isTextByte c (34 ∷ w .after) (λ b m. byte-text b (w .each b m)) refl)
 
     closed : getD s (contentEnd s i) 0 ≡ 34
     closed = sym closing ∙ rw (counted, rest) (getD-append-seam c 34 (w .after) 0)
