@@ -6,3 +6,4 @@ pub mod Shifted
 pub mod Spelled
 pub mod Shows
 pub mod NumberTokens
+pub mod NumeralTokens

@@ -58,7 +58,7 @@ digit true b e f = refl
 digit false b e f = sym f ∙ e
 
 -- a digit is a numeric byte, letter or not
-numeric-byte : (a u v w : Bool) → ((a || true || u) || v || w) ≡ true
+pub numeric-byte : (a u v w : Bool) → ((a || true || u) || v || w) ≡ true
 numeric-byte true u v w = refl
 numeric-byte false u v w = refl
 
