@@ -5,5 +5,5 @@ pub mod Ends
 pub mod Shifted
 pub mod Spelled
 pub mod Shows
-pub mod NumberTokens
 pub mod NumeralTokens
+pub mod NumberTokens

@@ -1,28 +1,31 @@
--- A number token is a numeral of at most 16 digits: so what it reads as is small. Assumes nothing.
+-- A number token stands exactly where a numeral of at most 16 digits ends its numeric run: so what it reads as is small. Assumes nothing.
 use Prim.Native.Nat.{ℕ, suc, _+_, _-_, _^_, _≤_, _<_}
 use mathlib.Core.Path.{_≡_, refl, sym, ap, _∙_, subst}
 use mathlib.Core.Bool.{Bool, true, false, cond, _&&_}
 use mathlib.Core.List.{List, [], _∷_, _++_, List·Memᴰ}
 use mathlib.Core.List.List·Memᴰ.{List·Memᴰ·head, List·Memᴰ·tail}
-use mathlib.Core.Logic.{⊎-elim}
+use mathlib.Core.Logic.{_⊎_, ⊎-elim, _↔_}
 use native.Mathlib.Omega.{arith}
 use borrow.Author.Tests.{leb-true, eqb-true}
 use lib.Dec.{eqb, leb}
 use lib.IntN.{natAbs}
 use lib.ListN.{length, getD, drop}
+use lib.Seq.{getD-drop}
 use Rattle.laws.proofs.Choose.{and-left, and-right, and-both}
 use Rattle.field.specs.Part.{part}
 use Rattle.field.proofs.Parts.{part-cons, part-join, length-part-in}
 use Rattle.decimal.specs.Digits.{allDigits, isDigit as isDigitByte}
 use Rattle.number.specs.Number.{unsigned, Numeral, numberOf}
 use Rattle.number.proofs.Numerals.{numeral-small}
-use Rattle.scan.specs.Kinds.{isDigit}
-use Rattle.scan.specs.Run.{run, runEnd}
+use Rattle.scan.specs.Kinds.{isDigit, isNumericByte}
+use Rattle.scan.specs.Run.{run, runEnd, blankEnd}
 use Rattle.scan.proofs.Runs.{run-passes}
-use Rattle.token.specs.Token.{isNumberAt, nextToken}
+use Rattle.token.specs.Token.{isNumberAt, tokenAt, nextToken}
 use Rattle.token.specs.declared.Token.{Token}
 use Rattle.token.specs.declared.Token.the-variants.{Number}
-use Rattle.token.proofs.Ahead.{Span, Figures, figures, in-range, up-to, past}
+use Rattle.token.proofs.Ahead.{Span, Figures, figures, in-range, past}
+use Rattle.item.specs.Numbers.{NumberFrom}
+use Rattle.item.proofs.NumeralTokens.{numeral-token}
 
 all-from : (ds : List ℕ) → ((b : ℕ) → List·Memᴰ b ds → isDigit b ≡ true) → allDigits ds ≡ true
 unfolding allDigits isDigitByte
@@ -35,7 +38,7 @@ pointed w [] h = absurd (omega arith)
 pointed w (x ∷ f) h = refl
 
 -- a numeral, whatever its parts
-pub record Some (bs : List ℕ) (minus : Bool) : Type 0 where
+record Some (bs : List ℕ) (minus : Bool) : Type 0 where
   pub whole : List ℕ
   pub after : List ℕ
   pub numeral : Numeral bs minus whole after
@@ -139,16 +142,49 @@ module _ (s : List ℕ) where
         };
       }
 
-  -- "Number: 1 to 16 digits in all, with at most one point that has a digit on each side.", after "an optional `-`"
-  pub number-token : (i a b : ℕ) → nextToken s i ≡ Number a b → (minus : Bool) × Some (part s a (b - a)) minus
-  number-token i a b e = go (figures s i a b (nextToken s i) refl e)
-    where
-      go : Span s a b × Figures s a b → (minus : Bool) × Some (part s a (b - a)) minus
-      go (span, f) =
-          let n = unsigned-number (f .first) b (f .digit) (span .inside) (f .number) in
-          ⊎-elim (λ p. (false, rw p at n)) (λ p. (true, signed-number a b (p .1) (omega arith) (span .inside) (rw (p .0) at n))) (f .sign)
+  some-sign : (a b first : ℕ) → a < b → b ≤ length s → (first ≡ a) ⊎ ((first ≡ a + 1) × (getD s a 0 ≡ 45)) → Some (part s first (b - first)) false
+      → (minus : Bool) × Some (part s a (b - a)) minus
+  some-sign a b first more room sign n =
+      ⊎-elim (λ p. (false, rw p at n)) (λ p. (true, signed-number a b (p .1) more room (rw (p .0) at n))) sign
+
+-- the byte after a run is none of its kind
+run-ends : (p : ℕ → Bool) → p 0 ≡ false → (xs : List ℕ) → p (getD xs (run p xs) 0) ≡ false
+unfolding run
+run-ends p z [] = z
+run-ends p z (x ∷ xs) = go (p x) refl (run-ends p z xs)
+  where
+    go : (t : Bool) → p x ≡ t → p (getD xs (run p xs) 0) ≡ false → p (getD (x ∷ xs) (elim t [ true ↦ suc (run p xs) | false ↦ 0 ]) 0) ≡ false
+    go true e h = h
+    go false e h = e
+
+end-stops : (p : ℕ → Bool) → p 0 ≡ false → (s : List ℕ) (i : ℕ) → p (getD s (runEnd p s i) 0) ≡ false
+unfolding runEnd
+end-stops p z s i = rw (← getD-drop i s (run p (drop i s)) 0) (run-ends p z (drop i s))
+
+-- A number token from a to b stands at i exactly where a number does.
+pub number-token-exactly : (s : List ℕ) (i a b : ℕ) → tokenAt s i ≡ Number a b ↔ ((a ≡ i) × NumberFrom s a b)
+number-token-exactly s i a b = (λ e. to (figures s i a b e), λ h. rw (← h .0) (from (h .1)))
+  where
+    to : (a ≡ i) × Span s a b × Figures s a b → (a ≡ i) × NumberFrom s a b
+    to (here, span, f) =
+        let u = unsigned-number s (f .first) b (f .digit) (span .inside) (f .number) in
+        let n = some-sign s a b (f .first) (span .ahead) (span .inside) (f .sign) u in (
+          here,
+          record {
+            minus = n .0;
+            whole = n .1 .whole;
+            after = n .1 .after;
+            numeral = n .1 .numeral;
+            inside = span .inside;
+            longest = rw (f .longest) (end-stops isNumericByte refl s (f .first));
+          },
+        )
+
+    from : NumberFrom s a b → tokenAt s a ≡ Number a b
+    from n = numeral-token s a b (n .numeral) (n .inside) (n .longest)
 
 -- "a signed whole number of at most 16 digits with the count of digits after the point"
 pub number-is-small : (s : List ℕ) (i a b : ℕ) → nextToken s i ≡ Number a b
     → (natAbs (numberOf (part s a (b - a)) .mantissa) < 10 ^ 16) × (numberOf (part s a (b - a)) .scale ≤ 15)
-number-is-small s i a b e = let n = number-token s i a b e in numeral-small (n .1 .numeral)
+unfolding nextToken
+number-is-small s i a b e = numeral-small (number-token-exactly s (blankEnd false s i) a b .0 e .1 .numeral)

@@ -75,7 +75,7 @@ module _ (s : List ℕ) (i : ℕ) where
   unfolding runEnd
   from p j = omega arith
 
-  pub up-to : (p : ℕ → Bool) (j : ℕ) → j ≤ length s → runEnd p s j ≤ length s
+  up-to : (p : ℕ → Bool) (j : ℕ) → j ≤ length s → runEnd p s j ≤ length s
   unfolding runEnd
   up-to p j l = omega (arith, run-fits p (drop j s), length-drop j s)
 
@@ -209,22 +209,14 @@ time-within (a-time r) = r .inside
 pub time-inside : (s : List ℕ) (i a b : ℕ) (r : Token) → r ≡ nextToken s i → r ≡ Time a b → b ≤ length s
 time-inside s i a b r d e = time-within (next-ahead s i r (Time a b) d e)
 
-the-figures : {s : List ℕ} {i a b : ℕ} → Ahead s i (Number a b) → Span s a b × Figures s a b
-the-figures (a-number r f) = (r, f)
+the-figures : {s : List ℕ} {i a b : ℕ} → Ahead s i (Number a b) → (a ≡ i) × Span s a b × Figures s a b
+the-figures (a-number r f) = (refl, r, f)
 
-pub figures : (s : List ℕ) (i a b : ℕ) (r : Token) → r ≡ nextToken s i → r ≡ Number a b → Span s a b × Figures s a b
-figures s i a b r d e = the-figures (next-ahead s i r (Number a b) d e)
+pub figures : (s : List ℕ) (i a b : ℕ) → tokenAt s i ≡ Number a b → (a ≡ i) × Span s a b × Figures s a b
+figures s i a b e = the-figures (rw e at (ahead s i))
 
 pub number-inside : (s : List ℕ) (i a b : ℕ) (r : Token) → r ≡ nextToken s i → r ≡ Number a b → Short s a b
 number-inside s i a b r d e =
-    let h = figures s i a b r d e in
-    let n = number-short s i (h .1 .first) b (h .1 .number) in
-    record { ahead = h .0 .ahead; inside = h .0 .inside; short = ⊎-elim (λ p. omega arith) (λ p. omega arith) (h .1 .sign) }
-
--- a string's opening quote stands within the file
-pub text-inside : (s : List ℕ) (i : ℕ) → isTextAt s i ≡ true → i < length s
-unfolding isTextAt
-text-inside s i e =
-    in-range s i (λ b. eqb b 34) i refl
-    (and-left (eqb (getD s i 0) 34) (leb (contentEnd s i - (i + 1)) textBytes)
-    (and-left (eqb (getD s i 0) 34 && leb (contentEnd s i - (i + 1)) textBytes) (eqb (getD s (contentEnd s i) 0) 34) e))
+    let h = the-figures (next-ahead s i r (Number a b) d e) in
+    let n = number-short s i (h .2 .first) b (h .2 .number) in
+    record { ahead = h .1 .ahead; inside = h .1 .inside; short = ⊎-elim (λ p. omega arith) (λ p. omega arith) (h .2 .sign) }
