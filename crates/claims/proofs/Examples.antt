@@ -9,7 +9,7 @@ use Rattle.field.specs.Part.{part}
 use Rattle.decimal.specs.Digits.{digits, value, isDigit, allDigits, widthFrom, plainWidth, plain}
 use Rattle.decimal.specs.Read.{digitsRead}
 use Rattle.scan.specs.Run.{run, runEnd, blank, blankEnd}
-use Rattle.token.specs.Token.{wordAt, textAt, isTimeAt, isNumberAt, shapedAt, numericAt, signAt, tokenAt, nextToken}
+use Rattle.token.specs.Token.{wordAt, textAt, isTextAt, isTimeAt, isNumberAt, shapedAt, numericAt, signAt, tokenAt, nextToken}
 use Rattle.item.specs.Tokens.{abortClass, clauseClass, wordClass, numberClass, dateNumber, timeNumber, itemOf, nextItem, lineFrom, line}
 use Rattle.grammar.specs.Reading.{read}
 use Rattle.job.specs.Job.{readJob}
@@ -21,7 +21,7 @@ use Rattle.claims.specs.Examples.{Row, examples, allHold}
 
 -- The one test. A row that leans on a new word has the word added to this line.
 pub examples-hold : allHold examples ≡ true
-unfolding examples allHold februaryLength monthLength realDate realTime part same hasAt digits value isDigit allDigits widthFrom plainWidth plain digitsRead kindRead numberRead nameRead run runEnd blank blankEnd wordAt textAt isTimeAt isNumberAt shapedAt numericAt signAt tokenAt nextToken abortClass clauseClass wordClass numberClass dateNumber timeNumber itemOf nextItem lineFrom line read readJob digitsOf scaleOf numberOf momentBytes recordBytes
+unfolding examples allHold februaryLength monthLength realDate realTime part same hasAt digits value isDigit allDigits widthFrom plainWidth plain digitsRead kindRead numberRead nameRead run runEnd blank blankEnd wordAt textAt isTextAt isTimeAt isNumberAt shapedAt numericAt signAt tokenAt nextToken abortClass clauseClass wordClass numberClass dateNumber timeNumber itemOf nextItem lineFrom line read readJob digitsOf scaleOf numberOf momentBytes recordBytes
 examples-hold = refl
 
 -- so each row holds

@@ -14,7 +14,7 @@ use Rattle.decimal.specs.Digits.{digits, widthFrom, plainWidth, plain}
 use Rattle.field.specs.Bytes.{ascii, same, hasAt}
 use Rattle.field.specs.Part.{part}
 use Rattle.scan.specs.Run.{run, runEnd, blank, blankEnd}
-use Rattle.token.specs.Token.{wordAt, textAt, isTimeAt, isNumberAt, shapedAt, numericAt, signAt, tokenAt, nextToken}
+use Rattle.token.specs.Token.{wordAt, textAt, isTextAt, isTimeAt, isNumberAt, shapedAt, numericAt, signAt, tokenAt, nextToken}
 use Rattle.item.specs.Tokens.{abortClass, clauseClass, wordClass, numberClass, dateNumber, timeNumber, itemOf, nextItem, lineFrom, line}
 use Rattle.grammar.specs.Reading.{Answer as Verdict, read}
 use Rattle.job.specs.Job.{readJob}
@@ -33,11 +33,11 @@ twoStatements : Verdict
 twoStatements = readJob (ascii "JOB a RESPONSE \"x\";GETINFO \"y\";") statements
 
 one-is : oneStatement ≡ done (0 ∷ [])
-unfolding oneStatement part same hasAt run runEnd blank blankEnd wordAt textAt isTimeAt isNumberAt shapedAt numericAt signAt tokenAt nextToken abortClass clauseClass wordClass numberClass dateNumber timeNumber itemOf nextItem lineFrom line read readJob
+unfolding oneStatement part same hasAt run runEnd blank blankEnd wordAt textAt isTextAt isTimeAt isNumberAt shapedAt numericAt signAt tokenAt nextToken abortClass clauseClass wordClass numberClass dateNumber timeNumber itemOf nextItem lineFrom line read readJob
 one-is = refl
 
 two-is : twoStatements ≡ done (0 ∷ 19 ∷ [])
-unfolding twoStatements part same hasAt run runEnd blank blankEnd wordAt textAt isTimeAt isNumberAt shapedAt numericAt signAt tokenAt nextToken abortClass clauseClass wordClass numberClass dateNumber timeNumber itemOf nextItem lineFrom line read readJob
+unfolding twoStatements part same hasAt run runEnd blank blankEnd wordAt textAt isTextAt isTimeAt isNumberAt shapedAt numericAt signAt tokenAt nextToken abortClass clauseClass wordClass numberClass dateNumber timeNumber itemOf nextItem lineFrom line read readJob
 two-is = refl
 
 pub not-refuses-all : ((s : List ℕ) → (n : ℕ) × (p : ℕ) × (readJob s statements ≡ refused n p)) → ⊥

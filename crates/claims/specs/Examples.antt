@@ -1,11 +1,11 @@
--- The examples that document 01 marks with a star, in one table: 01's words, and the test that they are, on the definitions that the contracts
--- cite. `proofs/Examples` proves that every row holds, by one computation. Assumes nothing.
+-- The examples that document 01 marks with a star, and both ends, sign and zero of its numbers, in one table: 01's words, and the test that
+-- they are, on the definitions that the contracts cite. `proofs/Examples` proves that every row holds, by one computation. Assumes nothing.
 use Prim.Native.Nat.{ℕ}
 use Prim.Native.String.{String}
 use mathlib.Core.Bool.{Bool, true, false, not, _&&_}
 use mathlib.Core.List.{List, [], _∷_}
 use lib.Dec.{eqb}
-use lib.IntN.{ℤ, pos, negsuc}
+use lib.IntN.{ℤ, pos, negsuc, negℤ}
 use lib.ListN.{length}
 use Rattle.field.specs.Bytes.{ascii, same}
 use Rattle.calendar.specs.Calendar.{realDate, realTime}
@@ -54,6 +54,10 @@ sameNumber x y = sameWhole (x .mantissa) (y .mantissa) && eqb (x .scale) (y .sca
 abbrev pub job : String → Result (List ℕ)
 job text = readJob (ascii text) statements
 
+-- the text is a token, though none that a file begins with (else 3), and reads as a number with this mantissa and scale
+abbrev pub reads : String → ℤ → ℕ → Bool
+reads text mantissa scale = isRefused unexpected 0 (job text) && sameNumber (numberOf (ascii text)) (record { mantissa = mantissa; scale = scale })
+
 -- the length of a record with number 1 and no text
 abbrev pub recordLength : Outcome → ℕ
 recordLength outcome = length (recordBytes (content 1 outcome [] 20240430 235959))
@@ -67,7 +71,13 @@ examples =
     ∷ row "JOB START RESPONSE \"x\";: 4 at 4" (isRefused unexpected 4 (job "JOB START RESPONSE \"x\";"))
     ∷ row "JOB a RESPONSE \"x: 3 at 15" (isRefused noToken 15 (job "JOB a RESPONSE \"x"))
     ∷ row "-0 equals 0" (sameNumber (numberOf (ascii "-0")) (numberOf (ascii "0")))
+    ∷ row "-0: 0, scale 0" (reads "-0" (pos 0) 0)
+    ∷ row "0.000000000000000: 0, scale 15" (reads "0.000000000000000" (pos 0) 15)
+    ∷ row "9999999999999999: 10^16 - 1, scale 0" (reads "9999999999999999" (pos 9999999999999999) 0)
+    ∷ row "-9999999999999999: 1 - 10^16, scale 0" (reads "-9999999999999999" (negℤ (pos 9999999999999999)) 0)
+    ∷ row "-1234567890.123456: the same digits, scale 6" (reads "-1234567890.123456" (negℤ (pos 1234567890123456)) 6)
     ∷ row "17 digits: 3" (isRefused noToken 0 (job "12345678901234567"))
+    ∷ row "17 digits with a point: 3" (isRefused noToken 0 (job "1234567890.1234567"))
     ∷ row "PROCESSED, n 1, empty text: 43 bytes" (eqb (recordLength Processed) 43)
     ∷ row "ERROR: 51" (eqb (recordLength (Error 6 16)) 51)
     ∷ row "date 20240431: refused" (not (realDate 20240431))

@@ -4,8 +4,8 @@ use mathlib.Core.List.{List, _∷_, _++_}
 use Prim.Native.Nat.{ℕ, suc, _+_, _-_, _≤_, _<_, min}
 use native.Mathlib.Omega.{arith}
 use native.Mathlib.Numerals.{add-one}
-use lib.ListN.{length, drop, getD, length-take, length-drop, take-append-drop}
-use lib.Seq.{drop-cons, take-at, drop-at, drop-drop}
+use lib.ListN.{length, take, drop, getD, length-take, length-drop, take-append-drop}
+use lib.Seq.{drop-cons, take-add, take-at, drop-at, drop-drop}
 use Rattle.field.specs.Part.{part}
 
 pub length-part : (s : List ℕ) (at w : ℕ) → length (part s at w) ≡ min w (length s - at)
@@ -18,6 +18,11 @@ length-part-in s at w h = omega (arith, length-part s at w)
 pub part-cons : (s : List ℕ) (at w : ℕ) → at < length s → part s at (suc w) ≡ getD s at 0 ∷ part s (at + 1) w
 unfolding part
 part-cons s at w h = rw (add-one, drop-cons s at 0)
+
+-- two parts side by side are one
+pub part-join : (s : List ℕ) (at v w : ℕ) → part s at (v + w) ≡ part s at v ++ part s (at + v) w
+unfolding part
+part-join s at v w = take-add v w (drop at s) ∙ ap (λ (l : List ℕ). take v (drop at s) ++ take w l) (drop-drop v at s)
 
 -- ---- what stands at a place, and what follows it
 

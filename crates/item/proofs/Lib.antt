@@ -6,3 +6,5 @@ pub mod Shifted
 pub mod Spelled
 pub mod Shows
 pub mod Tells
+pub mod NumeralTokens
+pub mod NumberTokens

@@ -9,7 +9,7 @@ use lib.ListN.{drop}
 use Rattle.field.specs.Part.{part}
 use Rattle.field.specs.Bytes.{hasAt}
 use Rattle.scan.specs.Run.{run, runEnd, blank, blankEnd}
-use Rattle.token.specs.Token.{wordAt, textAt, isTimeAt, isNumberAt, shapedAt, numericAt, signAt, tokenAt, nextToken}
+use Rattle.token.specs.Token.{wordAt, textAt, isTextAt, isTimeAt, isNumberAt, shapedAt, numericAt, signAt, tokenAt, nextToken}
 use Rattle.token.specs.declared.Token.{Token}
 use Rattle.token.specs.declared.Token.the-variants.{End, Fault, Word, TimeGe, Number, Time, Text, Sign, Semicolon}
 use Rattle.item.specs.Tokens.{Next, at, abortClass, clauseClass, wordClass, numberClass, dateNumber, timeNumber, itemOf, nextItem}
@@ -50,7 +50,7 @@ module _ (x : ℕ) (v : List ℕ) where
   word-up i = simp (run-up, has-up, suc-add, compare·suc-suc, up-cond)
 
   text-up : (i : ℕ) → textAt (x ∷ v) (suc i) ≡ up (textAt v i)
-  unfolding textAt
+  unfolding textAt isTextAt
   text-up i = simp (run-up, suc-add, suc-sub-suc, compare·suc-suc, up-cond)
 
   is-time-up : (i e : ℕ) → isTimeAt (x ∷ v) (suc i) (suc e) ≡ isTimeAt v i e

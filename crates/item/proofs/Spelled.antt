@@ -15,7 +15,7 @@ use Rattle.field.specs.Part.{part}
 use Rattle.field.specs.Bytes.{ascii, same, hasAt}
 use Rattle.scan.specs.Kinds.{isDigit, isLetter}
 use Rattle.scan.specs.Run.{run, runEnd, blank, blankEnd}
-use Rattle.token.specs.Token.{wordAt, textAt, isTimeAt, isNumberAt, shapedAt, numericAt, signAt, tokenAt, nextToken}
+use Rattle.token.specs.Token.{wordAt, textAt, isTextAt, isTimeAt, isNumberAt, shapedAt, numericAt, signAt, tokenAt, nextToken}
 use Rattle.token.specs.declared.Token.{Token}
 use Rattle.grammar.specs.Grammar.{Class}
 use Rattle.grammar.specs.Grammar.Class.{JOB, RESPONSE, UPLOAD, DOWNLOAD, GETINFO, ABORT, REPORT, EVENT, START, ACTIVE, IMMEDIATE, reserved, name, TIME≥, number, date, unrealDate, time, unrealTime, string, operator, semicolon}
@@ -107,7 +107,7 @@ in-file s i l = rw (lt-ltb _ _ l)
 first-token : (c : Class) (r : List ℕ)
     → (blankEnd false (32 ∷ (spell c ++ (32 ∷ r))) 0 ≡ 1)
     × ((x : Said) × itemOf (32 ∷ (spell c ++ (32 ∷ r))) (tokenIn (32 ∷ (spell c ++ (32 ∷ r))) 1) ≡ at c 1 (suc (length (spell c))) x)
-unfolding tokenIn itemOf wordClass clauseClass abortClass numberClass timeNumber digitsRead value isDigitByte allDigits part realDate realTime monthLength februaryLength wordAt textAt isTimeAt isNumberAt shapedAt numericAt signAt run runEnd same hasAt blankEnd blank
+unfolding tokenIn itemOf wordClass clauseClass abortClass numberClass timeNumber digitsRead value isDigitByte allDigits part realDate realTime monthLength februaryLength wordAt textAt isTextAt isTimeAt isNumberAt shapedAt numericAt signAt run runEnd same hasAt blankEnd blank
 first-token JOB r = (refl, (_, refl))
 first-token RESPONSE r = (refl, (_, refl))
 first-token UPLOAD r = (refl, (_, refl))

@@ -1,3 +1,4 @@
 pub mod Tokens
 pub mod Items
 pub mod Files
+pub mod Numbers

@@ -1,2 +1,3 @@
 pub mod SignedLaws
 pub mod Digits
+pub mod Numerals

@@ -1,34 +1,33 @@
 -- After the blanks no blank stands, and they lie within the file. Assumes nothing.
 use Prim.Native.Nat.{ℕ, suc, _+_, _≤_, max}
 use mathlib.Core.Path.{_≡_, refl}
-use mathlib.Core.Bool.{Bool, true, false, not, _&&_}
+use mathlib.Core.Bool.{Bool, true, false, not}
 use mathlib.Core.List.{List, [], _∷_}
 use native.Mathlib.Omega.{arith}
 use native.Mathlib.Nat.{add-zero}
-use lib.Dec.{eqb}
-use lib.ListN.{length, getD, drop, length-drop}
+use lib.ListN.{length, drop, length-drop}
 use lib.Seq.{drop-drop}
 use Rattle.scan.specs.Kinds.{isSeparator, isLineEnd}
-use Rattle.scan.specs.Run.{blank, blankEnd}
+use Rattle.scan.specs.Run.{commentAt, blank, blankEnd}
 
 module _ (x : ℕ) (xs : List ℕ) where
   separator : isSeparator x ≡ true → blank false (x ∷ xs) ≡ suc (blank false xs)
   unfolding blank
   separator e = rw (blank, e)
 
-  comment : isSeparator x ≡ false → (eqb x 47 && eqb (getD xs 0 0) 47) ≡ true → blank false (x ∷ xs) ≡ suc (blank true xs)
+  comment : isSeparator x ≡ false → commentAt (x ∷ xs) 0 ≡ true → blank false (x ∷ xs) ≡ suc (blank true xs)
   unfolding blank
   comment e f = rw (blank, e, f)
 
-  neither : isSeparator x ≡ false → (eqb x 47 && eqb (getD xs 0 0) 47) ≡ false → blank false (x ∷ xs) ≡ 0
+  neither : isSeparator x ≡ false → commentAt (x ∷ xs) 0 ≡ false → blank false (x ∷ xs) ≡ 0
   unfolding blank
   neither e f = rw (blank, e, f)
 
 -- what holds of the number of blanks, by the three cases of a first byte outside comments
 by-cases : (P : ℕ → Type 0) (x : ℕ) (xs : List ℕ) → P (suc (blank false xs)) → P (suc (blank true xs)) → (blank false (x ∷ xs) ≡ 0 → P 0) → P (blank false (x ∷ xs))
-by-cases P x xs h k z = go (isSeparator x) refl (eqb x 47 && eqb (getD xs 0 0) 47) refl
+by-cases P x xs h k z = go (isSeparator x) refl (commentAt (x ∷ xs) 0) refl
   where
-    go : (a : Bool) → isSeparator x ≡ a → (b : Bool) → (eqb x 47 && eqb (getD xs 0 0) 47) ≡ b → P (blank false (x ∷ xs))
+    go : (a : Bool) → isSeparator x ≡ a → (b : Bool) → commentAt (x ∷ xs) 0 ≡ b → P (blank false (x ∷ xs))
     go true e b f = rw (separator x xs e) h
     go false e true f = rw (comment x xs e f) k
     go false e false f = rw (neither x xs e f) (z (neither x xs e f))

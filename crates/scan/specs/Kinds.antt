@@ -39,6 +39,7 @@ abbrev pub isCommentByte : ℕ → Bool
 isCommentByte b = not (isLineEnd b)
 
 -- The kinds of which there are runs, by the numbers that code has for them: of a word, of a numeric run, digits, of a string, of a comment.
+-- They bind functions inside alone: no claim cites them.
 abbrev pub ofKind : ℕ → ℕ → Bool
 ofKind kind b =
     cond (eqb kind 0) (isWordByte b)

@@ -17,30 +17,30 @@ run p (x ∷ xs) = elim (p x) [ true ↦ suc (run p xs) | false ↦ 0 ]
 unfoldable pub runEnd : (ℕ → Bool) → List ℕ → ℕ → ℕ
 runEnd p s at = at + run p (drop at s)
 
--- "`//` outside a string begins a comment that runs up to CR, LF or the end.": how many bytes at the front separate. In a comment every
--- byte does, and CR or LF ends it; elsewhere a separator, or the first / of //, which begins a comment.
+-- "`//` outside a string begins a comment": it stands at i
+abbrev pub commentAt : List ℕ → ℕ → Bool
+commentAt s i = eqb (getD s i 0) 47 && eqb (getD s (i + 1) 0) 47
+
+-- "a comment that runs up to CR, LF or the end": how many bytes at the front separate. In a comment every byte does, and CR or LF ends it;
+-- elsewhere a separator, or the first / of //, which begins a comment.
 unfoldable pub blank : Bool → List ℕ → ℕ
 blank comment [] = 0
 blank true (x ∷ xs) = suc (blank (not (isLineEnd x)) xs)
 blank false (x ∷ xs) =
     elim (isSeparator x) [
       | true ↦ suc (blank false xs)
-      | false ↦ elim (eqb x 47 && eqb (getD xs 0 0) 47) [ true ↦ suc (blank true xs) | false ↦ 0 ]
+      | false ↦ elim (commentAt (x ∷ xs) 0) [ true ↦ suc (blank true xs) | false ↦ 0 ]
     ]
 
 -- the place of the next token, or the end, from at on
 unfoldable pub blankEnd : Bool → List ℕ → ℕ → ℕ
 blankEnd comment s at = at + blank comment (drop at s)
 
--- // stands at i
-abbrev pub commentAt : List ℕ → ℕ → Bool
-commentAt s i = eqb (getD s i 0) 47 && eqb (getD s (i + 1) 0) 47
-
 -- the word from start to end is w
 abbrev pub isWordAt : List ℕ → ℕ → ℕ → List ℕ → Bool
 isWordAt s start end w = eqb (end - start) (length w) && hasAt s start w
 
--- what a scan from at answers: the place e, and where it lies, which callers use
+-- what a scan from at answers: the place e, and where it lies, which callers use. It binds functions inside alone: no claim cites it.
 pub record Reached (s : List ℕ) (at e r : ℕ) : Type 0 where
   pub is : r ≡ e
   pub from : at ≤ r

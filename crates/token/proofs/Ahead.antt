@@ -2,9 +2,10 @@
 use Prim.Native.Nat.{ℕ, _+_, _-_, _≤_, _<_, max}
 use mathlib.Core.Path.{_≡_, refl, sym, _∙_, ap}
 use mathlib.Core.Bool.{Bool, true, false, true≢false, cond, _||_, _&&_}
-use mathlib.Core.List.{List, [], _∷_}
+use mathlib.Core.List.{List}
+use mathlib.Core.Logic.{_⊎_, inl, inr, ⊎-elim}
 use native.Mathlib.Omega.{arith}
-use borrow.Author.Tests.{ltb-true, ltb-false, leb-true}
+use borrow.Author.Tests.{ltb-true, ltb-false, leb-true, eqb-true}
 use lib.Dec.{ltb, leb, eqb}
 use lib.ListN.{length, getD, drop, length-drop, List·getD-eq-default}
 use lib.Seq.{drop-cons}
@@ -14,8 +15,9 @@ use Rattle.field.specs.Bytes.{ascii, hasAt}
 use Rattle.field.proofs.Same.{has-room}
 use Rattle.scan.specs.Kinds.{isDigit, isLetter, isWordByte, isNumericByte, isTextByte}
 use Rattle.scan.specs.Run.{run, runEnd, blankEnd}
+use Rattle.scan.proofs.Runs.{run-fits}
 use Rattle.scan.proofs.Settled.{Onward, onward}
-use Rattle.token.specs.Token.{contentEnd, wordAt, textAt, isTextAt, isTimeAt, isNumberAt, shapedAt, numericAt, signAt, tokenAt, nextToken, Short}
+use Rattle.token.specs.Token.{contentEnd, contentFits, wordAt, textAt, isTextAt, isTimeAt, isNumberAt, shapedAt, numericAt, signAt, tokenAt, nextToken, Short}
 use Rattle.token.specs.declared.Operator.{Operator}
 use Rattle.token.specs.declared.Why.{Why}
 use Rattle.token.specs.declared.Token.{Token}
@@ -26,13 +28,21 @@ pub record Span (s : List ℕ) (i b : ℕ) : Type 0 where
   pub ahead : i < b
   pub inside : b ≤ length s
 
+-- a number from i to b, where its numeric run ends: its first digit stands at i, or after a `-` there
+pub record Figures (s : List ℕ) (i b : ℕ) : Type 0 where
+  pub first : ℕ
+  pub sign : (first ≡ i) ⊎ ((first ≡ i + 1) × (getD s i 0 ≡ 45))
+  pub digit : isDigit (getD s first 0) ≡ true
+  pub number : isNumberAt s first b ≡ true
+  pub longest : b ≡ runEnd isNumericByte s first
+
 -- the token, if there is one, stands at i and ends after it, within the file
 pub data Ahead (s : List ℕ) (i : ℕ) : Token → Type 0 where
   the-end : length s ≤ i → Ahead s i (End i)
   a-fault : {w : Why} → i < length s → Ahead s i (Fault w i)
   a-word : {b : ℕ} → Span s i b → Ahead s i (Word i b)
   a-time-ge : {b : ℕ} → Span s i b → Ahead s i (TimeGe i b)
-  a-number : {b : ℕ} → Span s i b → b ≤ i + 18 → Ahead s i (Number i b)
+  a-number : {b : ℕ} → Span s i b → Figures s i b → Ahead s i (Number i b)
   a-time : {b : ℕ} → Span s i b → Ahead s i (Time i b)
   a-text : {b : ℕ} → Span s i b → Ahead s i (Text i b)
   a-sign : {o : Operator} {b : ℕ} → Span s i b → Ahead s i (Sign o i b)
@@ -48,7 +58,7 @@ digit true b e f = refl
 digit false b e f = sym f ∙ e
 
 -- a digit is a numeric byte, letter or not
-numeric-byte : (a u v w : Bool) → ((a || true || u) || v || w) ≡ true
+pub numeric-byte : (a u v w : Bool) → ((a || true || u) || v || w) ≡ true
 numeric-byte true u v w = refl
 numeric-byte false u v w = refl
 
@@ -56,16 +66,6 @@ numeric-byte false u v w = refl
 short-of : (b x : Bool) (m n e : ℕ) → cond b (leb e m) (x && leb e n) ≡ true → m ≤ n → e ≤ n
 short-of true x m n e k l = omega (arith, leb-true e m k)
 short-of false x m n e k l = leb-true e n (and-right x (leb e n) k)
-
--- runs lie within the bytes
-run-fits : (p : ℕ → Bool) (xs : List ℕ) → run p xs ≤ length xs
-unfolding run
-run-fits p [] = omega arith
-run-fits p (x ∷ xs) = go (run-fits p xs) (p x) refl
-  where
-    go : run p xs ≤ length xs → (b : Bool) → p x ≡ b → run p (x ∷ xs) ≤ length (x ∷ xs)
-    go h true e = rw (run, e) (omega arith)
-    go h false e = rw (run, e) (omega arith)
 
 module _ (s : List ℕ) (i : ℕ) where
   either : (b : Bool) {x y : Token} → Ahead s i x → Ahead s i y → Ahead s i (cond b x y)
@@ -88,7 +88,7 @@ module _ (s : List ℕ) (i : ℕ) where
       go false l = absurd (true≢false (sym e ∙ ap p (List·getD-eq-default s 0 (ltb-false _ _ l)) ∙ z))
 
   -- a run whose first byte passes
-  past : (p : ℕ → Bool) → i < length s → p (getD s i 0) ≡ true → i < runEnd p s i
+  pub past : (p : ℕ → Bool) → i < length s → p (getD s i 0) ≡ true → i < runEnd p s i
   unfolding runEnd run
   past p l e = rw (drop-cons s i 0 l, run, e) (omega arith)
 
@@ -107,28 +107,29 @@ module _ (s : List ℕ) (i : ℕ) where
       (eqb (getD s (runEnd isDigit s d) 0) 46 && isDigit (getD s (runEnd isDigit s d + 1) 0) && eqb (runEnd isDigit s (runEnd isDigit s d + 1)) e)
       (d + numberDigits) (d + numberDigits + 1) e h (omega arith)
 
-  shaped : (d : ℕ) → d ≤ i + 1 → i < length s → d ≤ length s → i < runEnd isNumericByte s d → Ahead s i (shapedAt s i d)
+  shaped : (d : ℕ) → (d ≡ i) ⊎ ((d ≡ i + 1) × (getD s i 0 ≡ 45)) → isDigit (getD s d 0) ≡ true → i < length s → d ≤ length s → i < runEnd isNumericByte s d
+      → Ahead s i (shapedAt s i d)
   unfolding shapedAt
-  shaped d n k m l =
+  shaped d n f k m l =
       let r : Span s i (runEnd isNumericByte s d) = omega (arith, up-to isNumericByte d m) in
       either (isTimeAt s i (runEnd isNumericByte s d)) (a-time r)
-      (choice (Ahead s i) (isNumberAt s d (runEnd isNumericByte s d)) (λ h. a-number r (omega (arith, number-short d (runEnd isNumericByte s d) h))) (λ h. a-fault k))
+      (choice (Ahead s i) (isNumberAt s d (runEnd isNumericByte s d)) (λ h. a-number r (record { first = d; sign = n; digit = f; number = h; longest = refl })) (λ h. a-fault k))
 
   numeric : i < length s → (isDigit (getD s i 0) || eqb (getD s i 0) 45) ≡ true → Ahead s i (numericAt s i)
   unfolding numericAt
   numeric l e =
       choice (Ahead s i) (eqb (getD s i 0) 45)
-      (λ m. choice (Ahead s i) (isDigit (getD s (i + 1) 0)) (λ d. shaped (i + 1) (omega arith) l (omega arith) (omega (arith, from isNumericByte (i + 1)))) (λ d. a-fault l))
-      (λ m. shaped i (omega arith) l (omega arith) (past isNumericByte l (rw (digit (isDigit (getD s i 0)) (eqb (getD s i 0) 45) e m) (numeric-byte (isLetter (getD s i 0)) (eqb (getD s i 0) 95) (eqb (getD s i 0) 46) (eqb (getD s i 0) 58)))))
+      (λ m. choice (Ahead s i) (isDigit (getD s (i + 1) 0)) (λ d. shaped (i + 1) (inr (refl, eqb-true _ 45 m)) d l (omega arith) (omega (arith, from isNumericByte (i + 1)))) (λ d. a-fault l))
+      (λ m.
+      let d = digit (isDigit (getD s i 0)) (eqb (getD s i 0) 45) e m in
+      shaped i (inl refl) d l (omega arith) (past isNumericByte l (rw d (numeric-byte (isLetter (getD s i 0)) (eqb (getD s i 0) 95) (eqb (getD s i 0) 46) (eqb (getD s i 0) 58)))))
 
   text : i < length s → Ahead s i (textAt s i)
-  unfolding textAt
+  unfolding textAt isTextAt
   text l =
-      either (leb (contentEnd s i - (i + 1)) textBytes)
-      (choice (Ahead s i) (eqb (getD s (contentEnd s i) 0) 34)
-      (λ e. a-text (omega (arith, from isTextByte (i + 1), in-range (λ b. eqb b 34) (contentEnd s i) refl e)))
-      (λ e. either (ltb (contentEnd s i) (length s)) (a-fault l) (a-fault l)))
-      (a-fault l)
+      choice (Ahead s i) (isTextAt s i)
+      (λ e. a-text (omega (arith, from isTextByte (i + 1), in-range (λ b. eqb b 34) (contentEnd s i) refl (and-right (eqb (getD s i 0) 34 && contentFits s i) (eqb (getD s (contentEnd s i) 0) 34) e))))
+      (λ e. either (contentFits s i && leb (length s) (contentEnd s i)) (a-fault l) (a-fault l))
 
   one : i < length s → Span s i (i + 1)
   one l = omega arith
@@ -185,7 +186,7 @@ lies-from (the-end l) = omega arith
 lies-from (a-fault l) = omega arith
 lies-from (a-word r) = omega arith
 lies-from (a-time-ge r) = omega arith
-lies-from (a-number r n) = omega arith
+lies-from (a-number r f) = omega arith
 lies-from (a-time r) = omega arith
 lies-from (a-text r) = omega arith
 lies-from (a-sign r) = omega arith
@@ -208,16 +209,14 @@ time-within (a-time r) = r .inside
 pub time-inside : (s : List ℕ) (i a b : ℕ) (r : Token) → r ≡ nextToken s i → r ≡ Time a b → b ≤ length s
 time-inside s i a b r d e = time-within (next-ahead s i r (Time a b) d e)
 
-number-within : {s : List ℕ} {i a b : ℕ} → Ahead s i (Number a b) → Short s a b
-number-within (a-number r n) = record { ahead = r .ahead; inside = r .inside; short = n }
+the-figures : {s : List ℕ} {i a b : ℕ} → Ahead s i (Number a b) → (a ≡ i) × Span s a b × Figures s a b
+the-figures (a-number r f) = (refl, r, f)
+
+pub figures : (s : List ℕ) (i a b : ℕ) → tokenAt s i ≡ Number a b → (a ≡ i) × Span s a b × Figures s a b
+figures s i a b e = the-figures (rw e at (ahead s i))
 
 pub number-inside : (s : List ℕ) (i a b : ℕ) (r : Token) → r ≡ nextToken s i → r ≡ Number a b → Short s a b
-number-inside s i a b r d e = number-within (next-ahead s i r (Number a b) d e)
-
--- a string's opening quote stands within the file
-pub text-inside : (s : List ℕ) (i : ℕ) → isTextAt s i ≡ true → i < length s
-unfolding isTextAt
-text-inside s i e =
-    in-range s i (λ b. eqb b 34) i refl
-    (and-left (eqb (getD s i 0) 34) (leb (contentEnd s i - (i + 1)) textBytes)
-    (and-left (eqb (getD s i 0) 34 && leb (contentEnd s i - (i + 1)) textBytes) (eqb (getD s (contentEnd s i) 0) 34) e))
+number-inside s i a b r d e =
+    let h = the-figures (next-ahead s i r (Number a b) d e) in
+    let n = number-short s i (h .2 .first) b (h .2 .number) in
+    record { ahead = h .1 .ahead; inside = h .1 .inside; short = ⊎-elim (λ p. omega arith) (λ p. omega arith) (h .2 .sign) }

@@ -2,7 +2,8 @@
 -- its kind". Where no token stands, `Fault` keeps why.
 use Prim.Native.Nat.{ℕ, _+_, _-_, _≤_, _<_}
 use mathlib.Core.Bool.{Bool, false, cond, _&&_, _||_}
-use mathlib.Core.List.{List}
+use mathlib.Core.Path.{_≡_}
+use mathlib.Core.List.{List, _∷_, _++_, List·Memᴰ}
 use lib.Dec.{eqb, leb, ltb}
 use lib.ListN.{length, getD, take, drop}
 use Rattle.counts.specs.Limits.{wordBytes, textBytes, numberDigits}
@@ -21,26 +22,36 @@ wordAt s i =
     cond (hasAt s i (ascii "TIME>=")) (TimeGe i (i + 6))
     (cond (leb (runEnd isWordByte s i) (i + wordBytes)) (Word i (runEnd isWordByte s i)) (Fault Misshapen i))
 
+-- "String: byte 34, then 0 to 255 bytes from 32 to 254 other than 34, then byte 34.": so stand the bytes of s from i on, with c between the
+-- quotes
+pub record WholeString (s : List ℕ) (i : ℕ) (c : List ℕ) : Type 0 where
+  pub after : List ℕ
+  pub stands : drop i s ≡ 34 ∷ (c ++ (34 ∷ after))
+  pub few : length c ≤ 255
+  pub each : (b : ℕ) → List·Memᴰ b c → (32 ≤ b) × (b ≤ 254) × (b ≡ 34 → ⊥)
+
 -- the place where the content of a string ends that opens at i
 abbrev pub contentEnd : List ℕ → ℕ → ℕ
 contentEnd s i = runEnd isTextByte s (i + 1)
 
--- "String: byte 34, then 0 to 255 bytes from 32 to 254 other than 34, then byte 34.": from its opening quote at i. Else it meets its 256th
--- content byte, the end of the file or a forbidden byte first.
-unfoldable pub textAt : List ℕ → ℕ → Token
-textAt s i =
-    cond (leb (contentEnd s i - (i + 1)) textBytes)
-    (cond (eqb (getD s (contentEnd s i) 0) 34) (Text i (contentEnd s i + 1))
-    (cond (ltb (contentEnd s i) (length s)) (Fault BrokenString i) (Fault OpenString i)))
-    (Fault BrokenString i)
+-- at most 255 bytes of content
+abbrev pub contentFits : List ℕ → ℕ → Bool
+contentFits s i = leb (contentEnd s i - (i + 1)) textBytes
 
 -- a whole string begins at i
 unfoldable pub isTextAt : List ℕ → ℕ → Bool
-isTextAt s i = eqb (getD s i 0) 34 && leb (contentEnd s i - (i + 1)) textBytes && eqb (getD s (contentEnd s i) 0) 34
+isTextAt s i = eqb (getD s i 0) 34 && contentFits s i && eqb (getD s (contentEnd s i) 0) 34
 
 -- "The text of a quoted string is shown as that part of the file between its quotes."
 unfoldable pub contentAt : List ℕ → ℕ → List ℕ
 contentAt s i = take (contentEnd s i - (i + 1)) (drop (i + 1) s)
+
+-- the token that opens with a quote at i: a whole string. Else it meets its 256th content byte, the end of the file or a forbidden byte
+-- first.
+unfoldable pub textAt : List ℕ → ℕ → Token
+textAt s i =
+    cond (isTextAt s i) (Text i (contentEnd s i + 1))
+    (cond (contentFits s i && leb (length s) (contentEnd s i)) (Fault OpenString i) (Fault BrokenString i))
 
 -- two digits at i
 abbrev pub pairAt : List ℕ → ℕ → Bool

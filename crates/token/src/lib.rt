@@ -15,7 +15,7 @@ use scan::is_letter;
 use scan::run_end;
 ghost use mathlib.Core.Path.{_≡_};
 ghost use Prim.Native.Nat.{_≤_, _<_, _*_};
-ghost use lib.ListN.{length};
+ghost use lib.ListN.{length, getD};
 ghost use Rattle.counts.specs.Limits.{fileBytes};
 ghost use Rattle.token.specs.Token.{wordAt, textAt, isTextAt, pairAt, isTimeAt, isNumberAt, shapedAt, numericAt, oneSign, signBeforeEqual, signAt, tokenAt, nextToken};
 
@@ -97,7 +97,7 @@ fn word_token(s: &[u8], i: usize) -> Token
 }
 
 fn text_token(s: &[u8], i: usize) -> Token
-    requires { ⌜ (i < length (now s)) × (length (now s) ≤ fileBytes) ⌝ }
+    requires { ⌜ (i < length (now s)) × (length (now s) ≤ fileBytes) × (getD (now s) i 0 ≡ 34) ⌝ }
     ensures { λ r. ⌜ r ≡ textAt (now (s .entry)) i ⌝ }
 {
     let end = run_end(s, i + 1, TEXT);

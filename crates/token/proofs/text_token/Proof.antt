@@ -1,7 +1,6 @@
 -- `token::text_token` meets its contract. Assumes nothing.
-use Rattle.laws.proofs.Choose.{choose}
-use Rattle.token.specs.Token.{textAt}
 use borrow.Author.Needs.{needs}
+use Rattle.token.proofs.Strings.{string}
 use Rattle.token.proofs.text_token.Statement.{statement}
 use Rattle.token.proofs.text_token.Tie as tie
 
@@ -24,20 +23,16 @@ add-t9 : tie.Need-add-t9
 add-t9 c = search needs
 
 returns : tie.Need-returns
-unfolding textAt
-returns c = rw (← c .before .before .before .run-end .ensures .is) (search choose depth 9)
+returns c = search string
 
 returns-2 : tie.Need-returns-2
-unfolding textAt
-returns-2 c = rw (← c .before .before .before .before .run-end .ensures .is) (search choose depth 9)
+returns-2 c = search string
 
 returns-3 : tie.Need-returns-3
-unfolding textAt
-returns-3 c = rw (← c .before .before .before .before .run-end .ensures .is) (search choose depth 9)
+returns-3 c = search string
 
 returns-4 : tie.Need-returns-4
-unfolding textAt
-returns-4 c = rw (← c .before .run-end .ensures .is) (search choose depth 9)
+returns-4 c = search string
 
 pub text-token-spec : {M : Type 1} → statement M
 text-token-spec =
