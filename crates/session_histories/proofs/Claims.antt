@@ -1,73 +1,91 @@
--- DEMAND 3 on lent bytes, for every MaxSessions from 1 to 32 and every list of calls from a fresh table, refused ones included.
--- A history has the newest event first, so `later ++ (e ∷ earlier)` is a history in which e happened, with what came after and before.
--- Assumes nothing.
-use Prim.Native.Nat.{ℕ, _≤_}
-use mathlib.Core.Path.{_≡_, _∙_, sym}
-use mathlib.Core.Bool.{true, false, cond}
-use mathlib.Core.List.{List, [], _∷_, _++_}
-use lib.Dec.{leb}
+-- DEMAND 3 on lent bytes: the calls of the session table meet it. Assumes nothing.
+use Prim.Native.Nat.{ℕ}
+use mathlib.Core.Path.{_≡_, refl, _∙_, ap, sym}
+use mathlib.Core.Bool.{Bool, true, false, cond}
+use mathlib.Core.List.{List}
+use lib.Dec.{eqb}
 use lib.ListN.{length}
-use borrow.Author.Tests.{le-leb}
+use borrow.Author.Tests.{eq-eqb}
 use Rattle.counts.specs.Limits.{sessions}
-use Rattle.counts.specs.Refusals.{tooLittleRoom, unsound}
-use Rattle.counts.specs.Result.{refused, done}
-use Rattle.field.specs.Part.{put}
+use Rattle.counts.specs.Refusals.{outOfRange, unsound}
+use Rattle.counts.specs.Result.{Result, refused, done}
+use Rattle.sessions.proofs.Answers.{Refuses as RefusesWithout}
 use Rattle.sessions.proofs.Claims as without-bytes
-use Rattle.sessions.specs.History.{Call, Event, placed, collected, accepted, collections}
-use Rattle.sessions.specs.Owed.{owed, Yours}
-use Rattle.sessions.specs.Table.{records}
-use Rattle.session_table.specs.Calls.{placing, collecting, collectedOut}
-use Rattle.table_sound.specs.Bytes.{soundBytes}
-use Rattle.session_histories.specs.Runs.{stepBytes, bytesAfter, historyOf, refusedWith, Refuses}
-use Rattle.session_histories.proofs.Same.{sound-after, same-history, place-same, collect-same, refuses-same, never-refused-so}
+use Rattle.sessions.specs.History.{itself, Event, made, placed, tookUp, answered, collectedAs}
+use Rattle.sessions.specs.Table.{within, place, takeUp, answer}
+use Rattle.sessions.specs.declared.Answer.{Answer}
+use Rattle.session_table.specs.Calls.{after, making, freshBytes, madeBytes}
+use Rattle.table_layout.specs.Layout.{tableBytes}
+use Rattle.table_search.proofs.Sounds.{sound-size}
+use Rattle.table_sound.specs.Bytes.{abs, soundBytes}
+use Rattle.session_histories.specs.Demand3.{Demand3}
+use Rattle.session_histories.specs.Runs.{toMake, toPlace, toTakeUp, toAnswer, stepBytes, bytesAfter, historyOf, makesAnew, Refuses}
+use Rattle.session_histories.proofs.Does.{placing-is, taking-is, answering-is, collected-is}
+use Rattle.session_histories.proofs.Same.{sound-after, run-after, not-13}
 
-module _ (max : ℕ) (low : 1 ≤ max) (high : max ≤ sessions) (cs : List Call) where
-  -- "these are always sound, so 13 is never given there"
-  pub always-sound : soundBytes (bytesAfter max cs) ≡ true
-  always-sound = sound-after max low high cs
+-- what an event's answer is
+placed-same : {p n : ℕ} {r r′ : Result (ℕ × ℕ)} → placed p n r ≡ placed p n r′ → r ≡ r′
+placed-same q = cc
 
-  pub never-13 : (c : Call) → refusedWith unsound (stepBytes (bytesAfter max cs) c .0) ≡ false
-  never-13 = never-refused-so max low high cs
+took-up-same : {r r′ : Result (ℕ × ℕ × ℕ)} → tookUp r ≡ tookUp r′ → r ≡ r′
+took-up-same q = cc
 
-  -- What program p, who shows ticket t, is answered is what the history owes: nothing else that stands in the bytes has a say.
-  pub collect-answers-what-is-owed : (p t room : ℕ) → collecting (bytesAfter max cs) p t room ≡ owed (historyOf max cs) p t room
-  collect-answers-what-is-owed p t room =
-      rw (same-history max low high cs) (collect-same max low high cs p t room ∙ without-bytes.collect-answers-what-is-owed max low high cs p t room)
+-- each call's event by the table without bytes
+module _ (b : List ℕ) (e : soundBytes b ≡ true) where
+  placed-is : (p n : ℕ) → stepBytes b (toPlace p n) .0 ≡ placed p n (place (abs b) p n .0)
+  unfolding stepBytes
+  placed-is p n = ap (placed p n) (placing-is b e p n)
 
-  module _ (later earlier : List Event) where
-    -- Where a collection under ticket t gave bytes: exactly one earlier placing gave t, by the same program, each of its commands has
-    -- exactly one accepted answer, and the bytes are the records in order of those answers.
-    pub reply-is-yours : (p t room : ℕ) (b : List ℕ) → historyOf max cs ≡ later ++ (collected p t room (done b) ∷ earlier) → Yours p t b earlier
-    reply-is-yours p t room b e =
-        without-bytes.reply-is-yours max low high cs later earlier p t room b (sym (same-history max low high cs) ∙ e)
+  took-up-is : stepBytes b toTakeUp .0 ≡ tookUp (takeUp (abs b) .0)
+  unfolding stepBytes
+  took-up-is = ap tookUp (taking-is b e)
 
-    -- After t is collected no call that names t is accepted, and no call gives t.
-    pub never-again : (p t room : ℕ) (b : List ℕ) → historyOf max cs ≡ later ++ (collected p t room (done b) ∷ earlier) → Refuses (bytesAfter max cs) t
-    never-again p t room b e =
-        refuses-same max low high cs t (without-bytes.never-again max low high cs later earlier p t room b (sym (same-history max low high cs) ∙ e))
+  answered-is : (t c : ℕ) (a : Answer) → stepBytes b (toAnswer t c a) .0 ≡ answered t c a (answer (abs b) t c a .0)
+  unfolding stepBytes
+  answered-is t c a = ap (answered t c a) (answering-is b e t c a)
 
-    module _ (p n s t : ℕ) (e : historyOf max cs ≡ later ++ (placed p n (done (s, t)) ∷ earlier)) where
-      -- Once the last command of t is answered, and until its collection, the owner who shows t gets exactly that reply where there is
-      -- room, and else 8.
-      pub reply-is-there : (room : ℕ) → length (accepted t later) ≡ n → collections t later ≡ []
-          → collecting (bytesAfter max cs) p t room ≡ cond (leb (length (records (accepted t later))) room) (done (records (accepted t later))) (refused tooLittleRoom 0)
-      reply-is-there room l f =
-          collect-same max low high cs p t room
-          ∙ without-bytes.reply-is-there max low high cs later earlier p n s t (sym (same-history max low high cs) ∙ e) room l f
+  refuses-bytes : (t : ℕ) → RefusesWithout (abs b) t → Refuses stepBytes b t
+  refuses-bytes t w =
+      record {
+        no-answer = λ c a. answered-is t c a ∙ ap (answered t c a) (w .no-answer c a);
+        no-collect = λ p out r. collected-is b e p t out ∙ ap (collectedAs p t out) (w .no-collect p (length out) r);
+        no-place = λ p n s q. w .no-place p n s (placed-same (sym (placed-is p n) ∙ q));
+        no-take-up = λ s c q. w .no-take-up s c (took-up-same (sym took-up-is ∙ q));
+      }
 
-      -- The reply stays what it is: once the last command is answered, nothing more is accepted under the ticket.
-      pub reply-stays : (newer older : List Event) → later ≡ newer ++ older → length (accepted t older) ≡ n → accepted t later ≡ accepted t older
-      reply-stays = without-bytes.reply-stays max low high cs later earlier p n s t (sym (same-history max low high cs) ∙ e)
+  -- a making of the table's own memory makes it anew exactly where its call says so, and else is refused and changes nothing
+  pub made-anew : (max : ℕ) → makesAnew (toMake itself max) ≡ true
+      → _≡_ {A = Event × List ℕ} (stepBytes b (toMake itself max)) (made itself max (done tt), freshBytes max)
+  unfolding stepBytes madeBytes making
+  made-anew max q = rw (q, eq-eqb (length b) tableBytes (sound-size b e))
 
-      -- It is written from the start of the lent output on, and all beyond it stays.
-      pub reply-is-written : (out : List ℕ) → length (accepted t later) ≡ n → collections t later ≡ [] → length (records (accepted t later)) ≤ length out
-          → collectedOut (bytesAfter max cs) p t out ≡ put out 0 (records (accepted t later))
-      unfolding collectedOut
-      reply-is-written out l f k =
-          rw (reply-is-there (length out) l f, le-leb (length (records (accepted t later))) (length out) k)
+  pub making-refused : (max : ℕ) → makesAnew (toMake itself max) ≡ false
+      → _≡_ {A = Event × List ℕ} (stepBytes b (toMake itself max)) (made itself max (refused outOfRange 0), b)
+  unfolding stepBytes madeBytes making
+  making-refused max q = rw q
 
-      -- Between the placing of a number and its collection no placing gives that number.
-      pub number-is-held : (q m u : ℕ) → collections t later ≡ [] → placing (bytesAfter max cs) q m ≡ done (s, u) → ⊥
-      number-is-held q m u f g =
-          without-bytes.number-is-held max low high cs later earlier p n s t (sym (same-history max low high cs) ∙ e) q m u f
-          (sym (place-same max low high cs q m) ∙ g)
+pub demand-3 : Demand3 freshBytes stepBytes
+demand-3 max low high cs kept =
+    let b = bytesAfter (freshBytes max) stepBytes cs in
+    let h = historyOf (freshBytes max) stepBytes cs in
+    let sound = sound-after max low high cs kept in
+    let run = run-after max low high cs kept in
+    record {
+      always-sound = sound;
+      never-13 = not-13 b sound;
+      reply-is-yours = λ p t n out exit later earlier e. without-bytes.reply-is-yours max low high (abs b) h run later earlier p t out n exit e;
+      collect-answers-what-is-owed = λ p t out.
+          collected-is b sound p t out ∙ ap (collectedAs p t out) (without-bytes.collect-answers-what-is-owed max low high (abs b) h run p t (length out));
+      answers-in-order = without-bytes.answers-in-order max low high (abs b) h run;
+      each-is-answered = λ p n s t later earlier e a newer older q.
+          without-bytes.each-is-answered max low high (abs b) h run later earlier p n s t e newer older a tt q;
+      reply-is-there = λ p n s t later earlier e a newer older q f out.
+          collected-is b sound p t out
+          ∙ ap (collectedAs p t out) (without-bytes.reply-is-there max low high (abs b) h run later earlier p n s t e newer older a tt q (length out) f);
+      reply-stays = λ p n s t later earlier e newer older q l.
+          without-bytes.reply-stays max low high (abs b) h run later earlier p n s t e newer older q l;
+      never-again = λ p t n out exit later earlier e.
+          refuses-bytes b sound t (without-bytes.never-again max low high (abs b) h run later earlier p t out n exit e);
+      number-is-held = λ p n s t later earlier e f q m u g.
+          without-bytes.number-is-held max low high (abs b) h run later earlier p n s t e q m u f (placed-same (sym (placed-is b sound q m) ∙ g));
+    }

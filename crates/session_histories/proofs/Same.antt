@@ -1,25 +1,28 @@
 -- The bytes after any calls are sound and hold what the table without bytes is then, and the answers are the same. Assumes nothing.
 use Prim.Native.Nat.{ℕ, _≤_}
-use mathlib.Core.Path.{_≡_, refl, _∙_, ap, sym}
-use mathlib.Core.Bool.{true, false, _&&_}
+use mathlib.Core.Path.{_≡_, refl, _∙_, ap}
+use mathlib.Core.Bool.{true, false, not, _&&_}
 use mathlib.Core.List.{List, [], _∷_}
+use borrow.Author.Tests.{eq-eqb, not-true}
 use lib.Dec.{leb, ltb}
 use lib.ListN.{length}
 use Rattle.counts.specs.Limits.{commands, programs, sessions, ticketMost}
 use Rattle.counts.specs.Refusals.{unsound}
-use Rattle.counts.specs.Result.{Result}
-use Rattle.sessions.proofs.Laws.{if-cond}
+use Rattle.counts.specs.Result.{Result, refused, done}
+use Rattle.sessions.proofs.Did.{Run, start, next}
+use Rattle.sessions.proofs.Laws.{if-cond, halves}
 use Rattle.sessions.specs.Find.{Found, none, at, find}
-use Rattle.sessions.specs.History.{Call, toPlace, toTakeUp, toAnswer, toCollect, step, table, history}
-use Rattle.sessions.specs.Owed.{Refuses as RefusesWithout}
+use Rattle.sessions.specs.History.{itself, other, collectedAs}
 use Rattle.record.specs.Record.{isOutcome}
 use Rattle.sessions.specs.Records.{isDated}
 use Rattle.sessions.specs.Table.{State, within, isOpen, place, placeIn, isWaiting, turn, takeUp, takeHand, takeNext, names, answer, answerHand, isReady, reply, collect, collectFrom}
 use Rattle.sessions.specs.declared.Answer.{Answer}
-use Rattle.session_table.specs.Calls.{placing, collecting}
+use Rattle.session_table.specs.Calls.{making, freshBytes}
+use Rattle.table_layout.specs.Layout.{tableBytes}
+use Rattle.table_search.proofs.Sounds.{sound-size}
 use Rattle.table_sound.specs.Bytes.{abs, soundBytes}
-use Rattle.session_histories.specs.Runs.{stepBytes, bytesAfter, historyOf, isRefusedWith, refusedWith, Refuses}
-use Rattle.session_histories.proofs.Does.{does, placing-is, taking-is, answering-is, collecting-is}
+use Rattle.session_histories.specs.Runs.{Call, toMake, toPlace, toTakeUp, toAnswer, toCollect, stepBytes, bytesAfter, historyOf, makesAnew, neverAnew, isRefusedWith, refusedWith}
+use Rattle.session_histories.proofs.Does.{does, keeps, placing-is, taking-is, answering-is, collected-is}
 use Rattle.session_histories.proofs.Fresh.{fresh-bytes, fresh-is-sound}
 
 -- no call of the table without bytes is refused with 13
@@ -66,45 +69,42 @@ module _ (σ : State) where
       go none = refl
       go (at s) = if-cond Not13 (leb (length (reply (σ .slot s))) room) (λ q. refl) (λ q. refl)
 
-  not-13 : (c : Call) → refusedWith unsound (step σ c .0) ≡ false
-  unfolding step
-  not-13 (toPlace p n) = not-placed p n
-  not-13 toTakeUp = not-taken
-  not-13 (toAnswer t c a) = not-answered t c a
-  not-13 (toCollect p t room) = not-collected p t room
+-- nor one on sound bytes, and a making of such bytes finds a table's size
+module _ (b : List ℕ) (e : soundBytes b ≡ true) where
+  not-made : (max : ℕ) → isRefusedWith unsound (making b max) ≡ false
+  unfolding making
+  not-made max =
+      rw (eq-eqb (length b) tableBytes (sound-size b e))
+      (if-cond (λ (r : Result (Unit {0})). isRefusedWith unsound r ≡ false) (within 1 max sessions) (λ q. refl) (λ q. refl))
+
+  not-given : (p t : ℕ) (out : List ℕ) (r : Result (List ℕ)) → isRefusedWith unsound r ≡ false → refusedWith unsound (collectedAs p t out r) ≡ false
+  not-given p t out (refused k i) q = q
+  not-given p t out (done x) q = q
+
+  pub not-13 : (c : Call) → refusedWith unsound (stepBytes b c .0) ≡ false
+  unfolding stepBytes
+  not-13 (toMake itself max) = not-made max
+  not-13 (toMake (other m) max) = refl
+  not-13 (toPlace p n) = rw (placing-is b e p n) (not-placed (abs b) p n)
+  not-13 toTakeUp = rw (taking-is b e) (not-taken (abs b))
+  not-13 (toAnswer t c a) = rw (answering-is b e t c a) (not-answered (abs b) t c a)
+  not-13 (toCollect p t out) = ap (refusedWith unsound) (collected-is b e p t out) ∙ not-given p t out (collect (abs b) p t (length out) .0) (not-collected (abs b) p t (length out))
+
+-- the tail of calls that make nothing anew
+anew-parts : (c : Call) (cs : List Call) → neverAnew (c ∷ cs) ≡ true → (makesAnew c ≡ false) × (neverAnew cs ≡ true)
+unfolding neverAnew
+anew-parts c cs q = let k = halves (not (makesAnew c)) (neverAnew cs) q in (not-true (makesAnew c) (k .0), k .1)
 
 module _ (max : ℕ) (low : 1 ≤ max) (high : max ≤ sessions) where
-  pub sound-after : (cs : List Call) → soundBytes (bytesAfter max cs) ≡ true
+  abbrev after : List Call → List ℕ
+  after = bytesAfter (freshBytes max) stepBytes
+
+  pub sound-after : (cs : List Call) → neverAnew cs ≡ true → soundBytes (after cs) ≡ true
   unfolding bytesAfter
-  sound-after [] = fresh-is-sound max low high
-  sound-after (c ∷ cs) = does (bytesAfter max cs) c (sound-after cs) .keeps
+  sound-after [] q = fresh-is-sound max low high
+  sound-after (c ∷ cs) q = let k = anew-parts c cs q in keeps (after cs) (sound-after cs (k .1)) c (k .0)
 
-  same-table : (cs : List Call) → abs (bytesAfter max cs) ≡ table max cs
-  unfolding bytesAfter table
-  same-table [] = fresh-bytes max low high
-  same-table (c ∷ cs) = does (bytesAfter max cs) c (sound-after cs) .leaves ∙ ap (λ σ. step σ c .1) (same-table cs)
-
-  pub same-history : (cs : List Call) → historyOf max cs ≡ history max cs
-  unfolding historyOf history
-  same-history [] = refl
-  same-history (c ∷ cs) = λ i.
-      (does (bytesAfter max cs) c (sound-after cs) .answers ∙ ap (λ σ. step σ c .0) (same-table cs)) i ∷ same-history cs i
-
-  module _ (cs : List Call) where
-    pub place-same : (p n : ℕ) → placing (bytesAfter max cs) p n ≡ place (table max cs) p n .0
-    place-same p n = placing-is (bytesAfter max cs) (sound-after cs) p n ∙ ap (λ σ. place σ p n .0) (same-table cs)
-
-    pub collect-same : (p t room : ℕ) → collecting (bytesAfter max cs) p t room ≡ collect (table max cs) p t room .0
-    collect-same p t room = collecting-is (bytesAfter max cs) (sound-after cs) p t room ∙ ap (λ σ. collect σ p t room .0) (same-table cs)
-
-    pub never-refused-so : (c : Call) → refusedWith unsound (stepBytes (bytesAfter max cs) c .0) ≡ false
-    never-refused-so c = ap (refusedWith unsound) (does (bytesAfter max cs) c (sound-after cs) .answers) ∙ not-13 (abs (bytesAfter max cs)) c
-
-    pub refuses-same : (t : ℕ) → RefusesWithout (table max cs) t → Refuses (bytesAfter max cs) t
-    refuses-same t w =
-        record {
-          no-answer = λ c a. answering-is (bytesAfter max cs) (sound-after cs) t c a ∙ ap (λ σ. answer σ t c a .0) (same-table cs) ∙ w .no-answer c a;
-          no-collect = λ p room r. collect-same p t room ∙ w .no-collect p room r;
-          no-place = λ p n s e. w .no-place p n s (sym (place-same p n) ∙ e);
-          no-take-up = λ s c e. w .no-take-up s c (sym (taking-is (bytesAfter max cs) (sound-after cs) ∙ ap (λ σ. takeUp σ .0) (same-table cs)) ∙ e);
-        }
+  pub run-after : (cs : List Call) → neverAnew cs ≡ true → Run max (abs (after cs)) (historyOf (freshBytes max) stepBytes cs)
+  unfolding bytesAfter historyOf
+  run-after [] q = rw (fresh-bytes max low high) start
+  run-after (c ∷ cs) q = let k = anew-parts c cs q in next (run-after cs (k .1)) (does (after cs) (sound-after cs (k .1)) c (k .0))

@@ -6,10 +6,10 @@ use mathlib.Core.List.{List, [], _∷_}
 use native.Mathlib.Omega.{arith}
 use borrow.Author.Tests.{eq-eqb, ne-eqb}
 use Rattle.counts.specs.Limits.{sessions}
-use Rattle.sessions.specs.History.{Call, Event, table, history, gather, placing, placings, accepted, collection, collections}
+use Rattle.sessions.specs.History.{Event, gather, placing, placings, accepted, collection, collections}
 use Rattle.sessions.proofs.Parts.{Sound}
 use Rattle.sessions.specs.Table.{State, fresh}
-use Rattle.sessions.proofs.Did.{Idle, no-place, no-take-up, again, no-answer, no-collect, Did, nothing, places, takes, answers, collects, did}
+use Rattle.sessions.proofs.Did.{Idle, no-make, other-make, no-place, no-take-up, again, no-answer, no-collect, Did, nothing, places, takes, answers, collects, Run, start, next}
 use Rattle.sessions.proofs.Laws.{either}
 use Rattle.sessions.proofs.SoundKept.{fresh-sound, is-session, is-open, tickets-below, sound-kept}
 use Rattle.sessions.proofs.Standing.{Standing, new, apart, its-placing, its-answer, its-collection}
@@ -33,11 +33,13 @@ fresh-agrees max l h =
 module _ (σ : State) (h : List Event) (ok : Sound σ) (A : Stands σ h) where
   idle : {e : Event} → Idle σ e → Stands σ (e ∷ h)
   unfolding gather placing accepted collection
+  idle (no-make m max k i) = A
+  idle (other-make m max r) = A
   idle (no-place p n k i) = A
   idle (no-take-up k i) = A
   idle (again s) = A
   idle (no-answer t c a k i) = A
-  idle (no-collect p t room k i) = A
+  idle (no-collect p t out k i) = A
 
   stands : {e : Event} {σ′ : State} → Did σ e σ′ → Stands σ′ (e ∷ h)
   unfolding gather placing accepted collection
@@ -70,10 +72,8 @@ module _ (σ : State) (h : List Event) (ok : Sound σ) (A : Stands σ h) where
       (apart (σ .last) (σ .slot) u _ _ _ s (σ .last) _ (omega arith) (λ k f. d (sym (w .ticket) ∙ f)) (λ k f. omega arith) (A u)))
       (either t u)
 
-pub agrees : (max : ℕ) → 1 ≤ max → max ≤ sessions → (cs : List Call) → Agrees (table max cs) (history max cs)
-unfolding table history
-agrees max l k [] = fresh-agrees max l k
-agrees max l k (c ∷ cs) =
-    let A = agrees max l k cs in
-    let d = did (table max cs) c in
-    record { sound = sound-kept d (A .sound); standing = stands (table max cs) (history max cs) (A .sound) (A .standing) d }
+pub agrees : (max : ℕ) → 1 ≤ max → max ≤ sessions → {σ : State} {h : List Event} → Run max σ h → Agrees σ h
+agrees max l k start = fresh-agrees max l k
+agrees max l k (next {σ = σ} {h = h} r d) =
+    let A = agrees max l k r in
+    record { sound = sound-kept d (A .sound); standing = stands σ h (A .sound) (A .standing) d }

@@ -1,19 +1,19 @@
 -- What the calls answer at any moment of a history, by the table that agrees with it.
 use Prim.Native.Nat.{ℕ, _+_, _-_, _≤_, _<_}
 use mathlib.Core.Path.{_≡_, refl, _∙_, ap, sym}
-use mathlib.Core.Bool.{cond, _&&_}
+use mathlib.Core.Bool.{true, _&&_}
 use mathlib.Core.Logic.{_⊎_, inl, inr, ⊎-elim}
 use mathlib.Core.List.{List, [], _∷_, _++_}
 use native.Mathlib.Nat.{eq-zero-or-pos}
 use native.Mathlib.Omega.{arith}
 use borrow.Author.Tests.{eq-eqb, ne-eqb, le-leb, eqb-true}
-use lib.Dec.{leb, ltb}
+use lib.Dec.{ltb}
 use lib.ListN.{length}
 use Rattle.counts.specs.Limits.{commands, programs, ticketMost}
-use Rattle.counts.specs.Refusals.{tooLittleRoom, notTheOne}
+use Rattle.counts.specs.Refusals.{notTheOne}
 use Rattle.sessions.specs.Find.{Found, none, at, find}
 use Rattle.sessions.specs.History.{Event, placings, accepted, collections}
-use Rattle.sessions.specs.Owed.{owedOf, owed, Refuses}
+use Rattle.sessions.specs.Owed.{ifRoom, owedOf, owed}
 use Rattle.sessions.specs.declared.Answer.{Answer}
 use Rattle.counts.specs.Result.{Result, refused, done}
 use Rattle.sessions.specs.Table.{State, within, isOpen, placeIn, place, takeNext, takeHand, takeUp, turn, isWaiting, names, answerHand, answer, numbered, records, collect}
@@ -22,6 +22,13 @@ use Rattle.sessions.proofs.Laws.{Search, miss, hit, search-find, if-con
 use Rattle.sessions.proofs.SoundKept.{is-session, tickets-below}
 use Rattle.sessions.proofs.Standing.{New, Gone, Standing, new, held, gone}
 use Rattle.sessions.proofs.Owing.{length-numbered, collect-owed}
+
+-- every call that names t is refused, and none gives t
+pub record Refuses (σ : State) (t : ℕ) : Type 0 where
+  pub no-answer : (c : ℕ) (a : Answer) → answer σ t c a .0 ≡ refused notTheOne 0
+  pub no-collect : (p room : ℕ) → within 1 p programs ≡ true → collect σ p t room .0 ≡ refused notTheOne 0
+  pub no-place : (p n s : ℕ) → place σ p n .0 ≡ done (s, t) → ⊥
+  pub no-take-up : (s c : ℕ) → takeUp σ .0 ≡ done (s, t, c) → ⊥
 
 module _ (σ : State) (h : List Event) (A : Agrees σ h) where
   -- what the calls that give a ticket give
@@ -95,7 +102,7 @@ module _ (σ : State) (h : List Event) (A : Agrees σ h) where
       go (gone w) = let z : _≡_ {A = ℕ} 0 1 = cc in absurd (omega arith)
 
   pub there : (t s p n room : ℕ) → placings t h ≡ (s, p, n) ∷ [] → length (accepted t h) ≡ n → collections t h ≡ []
-      → collect σ p t room .0 ≡ cond (leb (length (records (accepted t h))) room) (done (records (accepted t h))) (refused tooLittleRoom 0)
+      → collect σ p t room .0 ≡ ifRoom (records (accepted t h)) room
   unfolding owed owedOf
   there t s p n room e l f =
       let w = holds t s p n e f in
@@ -109,15 +116,15 @@ module _ (σ : State) (h : List Event) (A : Agrees σ h) where
       omega (arith, x .program-low, place-gives q m s u g .free)
 
   -- a ticket is new when it is given
-  pub given-new : (p n s t : ℕ) → place σ p n .0 ≡ done (s, t) → New (σ .last) (σ .slot) t (placings t h) (accepted t h) (collections t h)
-  given-new p n s t e = go (A .standing t)
+  pub given-new : (t : ℕ) → t ≡ σ .last + 1 → New (σ .last) (σ .slot) t (placings t h) (accepted t h) (collections t h)
+  given-new t e = go (A .standing t)
     where
       go : Standing (σ .last) (σ .slot) t (placings t h) (accepted t h) (collections t h) → New (σ .last) (σ .slot) t (placings t h) (accepted t h) (collections t h)
       go (new w) = w
       go (held w) =
           let k : σ .slot (w .number) .ticket ≡ t = ap (λ x. x .ticket) (w .there) ∙ w .its-ticket in
-          absurd (omega (arith, tickets-below σ (A .sound) (w .number), place-gives p n s t e .next))
-      go (gone w) = absurd (omega (arith, w .given, place-gives p n s t e .next))
+          absurd (omega (arith, tickets-below σ (A .sound) (w .number)))
+      go (gone w) = absurd (omega (arith, w .given))
 
   -- and is given once
   pub given-once : (t : ℕ) (x : ℕ × ℕ × ℕ) (l : List (ℕ × ℕ × ℕ)) → placings t h ≡ l ++ (x ∷ []) → placings t h ≡ x ∷ []
@@ -129,7 +136,7 @@ module _ (σ : State) (h : List Event) (A : Agrees σ h) where
       go (gone w) = e ∙ ap (λ m. m ++ (x ∷ [])) (snoc-alone l x _ (sym e ∙ w .one-placing))
 
   -- what was collected is gone
-  pub collected-gone : (t : ℕ) (l m : List (ℕ × List ℕ)) (x : ℕ × List ℕ) → collections t h ≡ l ++ (x ∷ m) → Refuses σ t
+  pub collected-gone : (t : ℕ) (l m : List ℕ) (x : ℕ) → collections t h ≡ l ++ (x ∷ m) → Refuses σ t
   collected-gone t l m x e = go (A .standing t)
     where
       go : Standing (σ .last) (σ .slot) t (placings t h) (accepted t h) (collections t h) → Refuses σ t

@@ -1,30 +1,32 @@
--- What one call did, in five cases. Every invariant goes by these; nothing above this file looks into a call.
+-- What one call did, in five cases, and every run of such calls from a fresh table on. Every invariant goes by these; nothing above this file looks into a call.
 use Prim.Native.Nat.{ℕ, _+_, _≤_, _<_}
 use mathlib.Core.Path.{_≡_, refl}
 use mathlib.Core.Bool.{true, _&&_}
-use mathlib.Core.List.{List}
-use borrow.Author.Tests.{eqb-true, ltb-true, ltb-false}
+use mathlib.Core.List.{List, [], _∷_}
+use borrow.Author.Tests.{eqb-true, leb-true, ltb-true, ltb-false}
 use lib.Dec.{leb, ltb}
 use lib.ListN.{length}
 use Rattle.counts.specs.Limits.{commands, programs, ticketMost}
 use Rattle.counts.specs.Refusals.{notReal, notARecord, tooLittleRoom, allTaken, notTheOne, outOfRange, noTicketLeft, nothingUnanswered}
 use Rattle.sessions.specs.Find.{Found, none, at}
-use Rattle.sessions.specs.History.{Call, toPlace, toTakeUp, toAnswer, toCollect, Event, placed, tookUp, answered, collected, step}
+use Rattle.sessions.specs.History.{Lent, other, Event, made, placed, tookUp, answered, collected, written, collectedAs}
 use Rattle.sessions.specs.declared.Answer.{Answer}
 use Rattle.record.specs.Record.{isOutcome}
 use Rattle.sessions.specs.Records.{isDated}
 use Rattle.sessions.specs.Sound.{isReal}
 use Rattle.counts.specs.Result.{Result, refused, done}
-use Rattle.sessions.specs.Table.{State, within, isOpen, afterPlace, placeIn, place, isWaiting, lowest, turn, given, afterTakeUp, takeNext, takeHand, takeUp, names, afterAnswer, answerHand, answer, reply, afterCollect, collectFrom, collect, isReady}
+use Rattle.sessions.specs.Table.{State, fresh, within, isOpen, afterPlace, placeIn, place, isWaiting, lowest, turn, given, afterTakeUp, takeNext, takeHand, takeUp, names, afterAnswer, answerHand, answer, reply, afterCollect, collectFrom, collect, isReady}
 use Rattle.sessions.proofs.Laws.{Search, miss, hit, search-find, halves, if-cond, in-range, are-named, is-ready}
 
--- refused, or given again what is in hand
+-- refused, given again what is in hand, or done to other memory
 pub data Idle (σ : State) : Event → Type 0 where
+  no-make : (m : Lent) (max k i : ℕ) → Idle σ (made m max (refused k i))
+  other-make : (m : List ℕ) (max : ℕ) (r : Result (Unit {0})) → Idle σ (made (other m) max r)
   no-place : (p n k i : ℕ) → Idle σ (placed p n (refused k i))
   no-take-up : (k i : ℕ) → Idle σ (tookUp (refused k i))
   again : (s : ℕ) → Idle σ (tookUp (given σ s))
   no-answer : (t c : ℕ) (a : Answer) (k i : ℕ) → Idle σ (answered t c a (refused k i))
-  no-collect : (p t room k i : ℕ) → Idle σ (collected p t room (refused k i))
+  no-collect : (p t : ℕ) (out : List ℕ) (k i : ℕ) → Idle σ (collected p t out (refused k i) out)
 
 -- what is known where a call is accepted
 pub record Places (σ : State) (s p n : ℕ) : Type 0 where
@@ -46,18 +48,25 @@ pub record Answers (σ : State) (s t c : ℕ) (a : Answer) : Type 0 where
   pub command : lowest (σ .slot s) ≡ c
   pub real : isReal a ≡ true
 
-pub record Collects (σ : State) (s p t : ℕ) : Type 0 where
+pub record Collects (σ : State) (s p t : ℕ) (out : List ℕ) : Type 0 where
   pub program-low : 1 ≤ p
   pub program : σ .slot s .program ≡ p
   pub ticket : σ .slot s .ticket ≡ t
   pub closed : length (σ .slot s .answers) ≡ σ .slot s .count
+  pub fits : length (reply (σ .slot s)) ≤ length out
 
 pub data Did (σ : State) : Event → State → Type 0 where
   nothing : {e : Event} → Idle σ e → Did σ e σ
   places : {s p n : ℕ} → Places σ s p n → Did σ (placed p n (done (s, σ .last + 1))) (afterPlace σ s p n)
   takes : {i : ℕ} → Takes σ i → Did σ (tookUp (given σ (turn σ i))) (afterTakeUp σ (turn σ i))
   answers : {s t c : ℕ} {a : Answer} → Answers σ s t c a → Did σ (answered t c a (done tt)) (afterAnswer σ s a)
-  collects : {s p t room : ℕ} → Collects σ s p t → Did σ (collected p t room (done (reply (σ .slot s)))) (afterCollect σ s)
+  collects : {s p t : ℕ} {out : List ℕ} → Collects σ s p t out
+      → Did σ (collected p t out (done (length (reply (σ .slot s)))) (written out (reply (σ .slot s)))) (afterCollect σ s)
+
+-- from a fresh table on: where it stands, and what was called
+pub data Run (max : ℕ) : State → List Event → Type 0 where
+  start : Run max (fresh max) []
+  next : {σ σ′ : State} {h : List Event} {e : Event} → Run max σ h → Did σ e σ′ → Run max σ′ (e ∷ h)
 
 module _ (σ : State) where
   module _ (p n : ℕ) where
@@ -74,7 +83,7 @@ module _ (σ : State) where
         places (record { free = eqb-true _ _ e; below = l; program-range = in-range 1 p programs (b .0); count-range = in-range 1 n commands (b .1); room = ltb-true _ _ q }))
         (λ q. nothing (no-place p n noTicketLeft 0))
 
-    did-place : Placed (place σ p n)
+    pub did-place : Placed (place σ p n)
     unfolding place
     did-place = if-cond Placed (within 1 p programs && within 1 n commands) (λ r. place-in r _ (search-find _ _)) (λ q. nothing (no-place p n outOfRange 0))
 
@@ -110,27 +119,28 @@ module _ (σ : State) where
         (λ q. nothing (no-answer t c a notReal 0)))
         (λ q. nothing (no-answer t c a notTheOne 0))
 
-  module _ (p t room : ℕ) where
+  module _ (p t : ℕ) (out : List ℕ) where
     abbrev Collected : Result (List ℕ) × State → Type 0
-    Collected r = Did σ (collected p t room (r .0)) (r .1)
+    Collected r = Did σ (collectedAs p t out (r .0)) (r .1)
 
-    collect-from : within 1 p programs ≡ true → (f : Found) → Search (σ .max) (λ s. isReady p t (σ .slot s)) f → Collected (collectFrom σ room f)
+    collect-from : within 1 p programs ≡ true → (f : Found) → Search (σ .max) (λ s. isReady p t (σ .slot s)) f → Collected (collectFrom σ (length out) f)
     unfolding collectFrom
-    collect-from r none (miss m) = nothing (no-collect p t room notTheOne 0)
+    collect-from r none (miss m) = nothing (no-collect p t out notTheOne 0)
     collect-from r (at s) (hit l e m) =
-        if-cond Collected (leb (length (reply (σ .slot s))) room)
+        if-cond Collected (leb (length (reply (σ .slot s))) (length out))
         (λ q.
         let k = is-ready p t (σ .slot s) e in
-        collects (record { program-low = in-range 1 p programs r .0; program = k .0; ticket = k .1; closed = k .2 }))
-        (λ q. nothing (no-collect p t room tooLittleRoom 0))
+        collects (record { program-low = in-range 1 p programs r .0; program = k .0; ticket = k .1; closed = k .2; fits = leb-true _ _ q }))
+        (λ q. nothing (no-collect p t out tooLittleRoom 0))
 
-    did-collect : Collected (collect σ p t room)
+    pub did-collect : Collected (collect σ p t (length out))
     unfolding collect
-    did-collect = if-cond Collected (within 1 p programs) (λ r. collect-from r _ (search-find _ _)) (λ q. nothing (no-collect p t room outOfRange 0))
+    did-collect = if-cond Collected (within 1 p programs) (λ r. collect-from r _ (search-find _ _)) (λ q. nothing (no-collect p t out outOfRange 0))
 
-  pub did : (c : Call) → Did σ (step σ c .0) (step σ c .1)
-  unfolding step takeUp answer
-  did (toPlace p n) = did-place p n
-  did toTakeUp = take-hand (σ .hand) refl
-  did (toAnswer t c a) = answer-hand t c a (σ .hand) refl
-  did (toCollect p t room) = did-collect p t room
+  pub did-take-up : Did σ (tookUp (takeUp σ .0)) (takeUp σ .1)
+  unfolding takeUp
+  did-take-up = take-hand (σ .hand) refl
+
+  pub did-answer : (t c : ℕ) (a : Answer) → Did σ (answered t c a (answer σ t c a .0)) (answer σ t c a .1)
+  unfolding answer
+  did-answer t c a = answer-hand t c a (σ .hand) refl

@@ -1,22 +1,23 @@
 -- What a collection answers at any moment of a history, by the table that agrees with it: what the history owes.
 use Prim.Native.Nat.{ℕ, suc, _≤_, _<_}
 use mathlib.Core.Path.{_≡_, refl, _∙_, ap, sym}
-use mathlib.Core.Bool.{Bool, true, false, cond, _&&_, and-true}
+use mathlib.Core.Bool.{Bool, true, false, cond, and-true}
 use mathlib.Core.List.{List, [], _∷_}
 use native.Mathlib.Omega.{arith}
-use borrow.Author.Tests.{eq-eqb, eqb-true}
-use lib.Dec.{eqb, leb}
+use borrow.Author.Tests.{eq-eqb}
+use lib.Dec.{leb}
 use lib.ListN.{length}
 use Rattle.counts.specs.Limits.{programs}
 use Rattle.counts.specs.Refusals.{tooLittleRoom, notTheOne}
 use Rattle.sessions.specs.Find.{Found, none, at}
-use Rattle.sessions.specs.History.{Event, placings, accepted, collections}
-use Rattle.sessions.specs.Owed.{owedOf, owed, Yours}
+use Rattle.sessions.specs.History.{Event, written, placings, accepted, collections}
+use Rattle.sessions.specs.Owed.{ifRoom, owedOf, owed, Yours}
 use Rattle.sessions.specs.declared.Answer.{Answer}
 use Rattle.counts.specs.Result.{refused, done}
-use Rattle.sessions.specs.Table.{State, within, isReady, reply, numbered, records, collectFrom, collect}
+use Rattle.sessions.specs.Table.{State, within, isReady, reply, numbered, collectFrom, collect}
 use Rattle.sessions.proofs.Agrees.{Agrees}
-use Rattle.sessions.proofs.Laws.{Search, miss, hit, search-find, halves, if-cond, in-range, is-ready, refused≢done}
+use Rattle.sessions.proofs.Did.{Collects}
+use Rattle.sessions.proofs.Laws.{Search, miss, hit, search-find, in-range, is-ready}
 use Rattle.sessions.proofs.SoundKept.{is-session}
 use Rattle.sessions.proofs.Standing.{Standing, new, held, gone, At, held-at}
 
@@ -30,30 +31,6 @@ answer-cond : {A B : Type 0} (b : Bool) (x : A × B) (y z : A) (v : B) → (b �
 answer-cond true x y z v f = f refl
 answer-cond false x y z v f = refl
 
--- something is owed only for one placing, by p, with an answer to each command, and no collection
-record Owes (p : ℕ) (b : List ℕ) (ps : List (ℕ × ℕ × ℕ)) (qs : List (ℕ × Answer)) (rs : List (ℕ × List ℕ)) : Type 0 where
-  number : ℕ
-  one-placing : ps ≡ (number, p, length qs) ∷ []
-  no-reply : rs ≡ []
-  its-records : b ≡ records qs
-
-owes : (p room : ℕ) (b : List ℕ) (ps : List (ℕ × ℕ × ℕ)) (qs : List (ℕ × Answer)) (rs : List (ℕ × List ℕ)) → owedOf p room ps qs rs ≡ done b → Owes p b ps qs rs
-unfolding owedOf
-owes p room b [] qs rs e = absurd (refused≢done e)
-owes p room b (x ∷ []) qs [] e =
-    if-cond (λ z. z ≡ done b → Owes p b (x ∷ []) qs []) (eqb (x .1) p && eqb (length qs) (x .2))
-    (λ q. if-cond (λ z. z ≡ done b → Owes p b (x ∷ []) qs []) (leb (length (records qs)) room)
-    (λ m d.
-    let k = halves (eqb (x .1) p) (eqb (length qs) (x .2)) q in
-    let e1 = eqb-true (x .1) p (k .0) in
-    let e2 = eqb-true (length qs) (x .2) (k .1) in
-    record { number = x .0; one-placing = rw (← e1, e2); no-reply = refl; its-records = cc })
-    (λ m d. absurd (refused≢done d)))
-    (λ q d. absurd (refused≢done d))
-    e
-owes p room b (x ∷ []) qs (r ∷ rs) e = absurd (refused≢done e)
-owes p room b (x ∷ y ∷ ps) qs rs e = absurd (refused≢done e)
-
 module _ (σ : State) (h : List Event) (A : Agrees σ h) where
   -- the history of the ticket that stands at s
   standing-at : (s : ℕ) → 1 ≤ σ .slot s .ticket → (t : ℕ) → σ .slot s .ticket ≡ t → At (σ .slot s) s (placings t h) (accepted t h) (collections t h)
@@ -63,7 +40,7 @@ module _ (σ : State) (h : List Event) (A : Agrees σ h) where
 
   module _ (p t room : ℕ) (r : within 1 p programs ≡ true) where
     -- nobody is ready: nothing is owed
-    none-owed : ((s : ℕ) → s < σ .max → isReady p t (σ .slot s) ≡ false) → {ps : List (ℕ × ℕ × ℕ)} {qs : List (ℕ × Answer)} {rs : List (ℕ × List ℕ)}
+    none-owed : ((s : ℕ) → s < σ .max → isReady p t (σ .slot s) ≡ false) → {ps : List (ℕ × ℕ × ℕ)} {qs : List (ℕ × Answer)} {rs : List ℕ}
         → Standing (σ .last) (σ .slot) t ps qs rs → refused notTheOne 0 ≡ owedOf p room ps qs rs
     unfolding owedOf isReady
     none-owed m (new w) = rw (w .no-placing)
@@ -89,7 +66,7 @@ module _ (σ : State) (h : List Event) (A : Agrees σ h) where
   collect-owed p t room = answer-cond (within 1 p programs) _ _ _ _ (λ r. found-owed p t room r _ (search-find _ _))
 
   -- the answers accepted under a ticket are numbered from 1
-  in-order : (t : ℕ) → (l : List Answer) × (accepted t h ≡ numbered 1 l)
+  pub in-order : (t : ℕ) → (l : List Answer) × (accepted t h ≡ numbered 1 l)
   unfolding numbered
   in-order t = go (A .standing t)
     where
@@ -99,20 +76,18 @@ module _ (σ : State) (h : List Event) (A : Agrees σ h) where
       go (gone w) = (w .what .answers, w .its-answers)
 
   -- whoever was given something
-  pub collect-yours : (p t room : ℕ) (b : List ℕ) → collect σ p t room .0 ≡ done b → Yours p t b h
-  unfolding owed
-  collect-yours p t room b e =
-      if-cond (λ z. z ≡ done b → Yours p t b h) (within 1 p programs)
-      (λ r d.
-      let w = owes p room b _ _ _ d in
-      let o = in-order t in
+  pub collect-yours : {s p t : ℕ} {out : List ℕ} → Collects σ s p t out
+      → Yours p t out (length (reply (σ .slot s))) (written out (reply (σ .slot s))) h
+  collect-yours {s} {p} {t} w =
+      let x = is-session σ (A .sound) (λ x. x .program) refl s (omega (arith, w .program, w .program-low)) in
+      let k = standing-at s (x .ticket-low) t (w .ticket) in
       record {
-        number = w .number;
-        answers = o .0;
-        one-placing = w .one-placing ∙ ap (λ k. (w .number, p, k) ∷ []) (ap length (o .1) ∙ length-numbered 1 (o .0));
-        one-answer-each = o .1;
-        not-collected = w .no-reply;
-        its-records = w .its-records ∙ ap records (o .1);
-      })
-      (λ r d. absurd (refused≢done d))
-      (sym (collect-owed p t room) ∙ e)
+        number = s;
+        answers = σ .slot s .answers;
+        one-placing = rw (← (w .program), w .closed) (k .one-placing);
+        one-answer-each = k .its-answers;
+        not-collected = k .no-reply;
+        its-length = refl;
+        in-the-output = w .fits;
+        its-records = refl;
+      }

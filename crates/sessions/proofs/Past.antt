@@ -1,14 +1,15 @@
 -- A history taken apart at one of its events.
-use Prim.Native.Nat.{ℕ}
-use mathlib.Core.Path.{_≡_, refl, sym}
+use Prim.Native.Nat.{ℕ, _+_}
+use mathlib.Core.Path.{_≡_, refl, sym, subst}
 use mathlib.Core.Bool.{Bool, true, false, cond}
 use mathlib.Core.List.{List, [], _∷_, _++_, append-assoc, append-nil}
-use native.Mathlib.Omega.{arith}
 use lib.Dec.{eqb}
-use Rattle.sessions.specs.History.{Call, toPlace, toTakeUp, toAnswer, toCollect, Event, placed, tookUp, answered, collected, step, table, history, gather, accepted}
+use lib.ListN.{length}
+use Rattle.sessions.specs.History.{Event, made, placed, tookUp, answered, collected, written, gather, accepted}
 use Rattle.sessions.specs.declared.Answer.{Answer}
-use Rattle.counts.specs.Result.{Result, refused, done}
-use Rattle.sessions.specs.Table.{State, place, collect}
+use Rattle.counts.specs.Result.{refused, done}
+use Rattle.sessions.specs.Table.{State, reply}
+use Rattle.sessions.proofs.Did.{Collects, Idle, no-make, other-make, no-place, no-take-up, again, no-answer, no-collect, Did, nothing, places, takes, answers, collects, Run, start, next}
 use Rattle.sessions.proofs.Laws.{nil≢cons, tail-same}
 
 pub head-same : {A : Type 0} {x y : A} {l m : List A} → x ∷ l ≡ y ∷ m → x ≡ y
@@ -26,37 +27,60 @@ more false x k l = refl
 pub accepted-append : (t : ℕ) (l h : List Event) → accepted t (l ++ h) ≡ accepted t h ++ accepted t l
 unfolding accepted
 accepted-append t [] h = sym (append-nil _)
+accepted-append t (made m max r ∷ l) h = accepted-append t l h
 accepted-append t (placed p n r ∷ l) h = accepted-append t l h
 accepted-append t (tookUp r ∷ l) h = accepted-append t l h
 accepted-append t (answered u c a (done r) ∷ l) h = rw (accepted-append t l h) (more (eqb u t) (c, a) (accepted t h) (accepted t l))
 accepted-append t (answered u c a (refused k i) ∷ l) h = accepted-append t l h
-accepted-append t (collected p u room r ∷ l) h = accepted-append t l h
+accepted-append t (collected p u out r exit ∷ l) h = accepted-append t l h
 
--- the moment of an event: what was called, and after which calls
+-- the moment of an event: the table before it and after it
 pub record Moment (max : ℕ) (e : Event) (earlier : List Event) : Type 0 where
-  pub calls : List Call
-  pub call : Call
-  pub before : history max calls ≡ earlier
-  pub now : step (table max calls) call .0 ≡ e
+  pub before : State
+  pub after : State
+  pub run : Run max before earlier
+  pub now : Did before e after
 
-pub moment : (max : ℕ) (cs : List Call) (later earlier : List Event) (e : Event) → history max cs ≡ later ++ (e ∷ earlier) → Moment max e earlier
-unfolding history
-moment max [] [] earlier e q = absurd (nil≢cons q)
-moment max [] (x ∷ later) earlier e q = absurd (nil≢cons q)
-moment max (c ∷ cs) [] earlier e q = record { calls = cs; call = c; before = tail-same q; now = head-same q }
-moment max (c ∷ cs) (x ∷ later) earlier e q = moment max cs later earlier e (tail-same q)
+pub moment : (max : ℕ) {σ : State} {h : List Event} → Run max σ h → (later earlier : List Event) (e : Event) → h ≡ later ++ (e ∷ earlier) → Moment max e earlier
+moment max start [] earlier e q = absurd (nil≢cons q)
+moment max start (x ∷ later) earlier e q = absurd (nil≢cons q)
+moment max (next {σ = σ} {σ′ = σ′} r d) [] earlier e q =
+    record {
+      before = σ;
+      after = σ′;
+      run = subst (λ (h : List Event). Run max σ h) (tail-same q) r;
+      now = subst (λ (x : Event). Did σ x σ′) (head-same q) d;
+    }
+moment max (next r d) (x ∷ later) earlier e q = moment max r later earlier e (tail-same q)
 
--- the call of an event is the event's
-pub was-collect : (σ : State) (c : Call) (p t room : ℕ) (r : Result (List ℕ)) → step σ c .0 ≡ collected p t room r → collect σ p t room .0 ≡ r
-unfolding step
-was-collect σ (toPlace q n) p t room r e = let z : _≡_ {A = ℕ} 0 1 = cc in absurd (omega arith)
-was-collect σ toTakeUp p t room r e = let z : _≡_ {A = ℕ} 0 1 = cc in absurd (omega arith)
-was-collect σ (toAnswer u c a) p t room r e = let z : _≡_ {A = ℕ} 0 1 = cc in absurd (omega arith)
-was-collect σ (toCollect q u m) p t room r e = cc
+-- what a placing that gave a ticket, and a collection that gave a reply, did
+pub record Collection (σ : State) (p t : ℕ) (out : List ℕ) (n : ℕ) (exit : List ℕ) : Type 0 where
+  pub number : ℕ
+  pub collects-it : Collects σ number p t out
+  pub its-length : n ≡ length (reply (σ .slot number))
+  pub its-output : exit ≡ written out (reply (σ .slot number))
 
-pub was-place : (σ : State) (c : Call) (p n : ℕ) (r : Result (ℕ × ℕ)) → step σ c .0 ≡ placed p n r → place σ p n .0 ≡ r
-unfolding step
-was-place σ (toPlace q m) p n r e = cc
-was-place σ toTakeUp p n r e = let z : _≡_ {A = ℕ} 0 1 = cc in absurd (omega arith)
-was-place σ (toAnswer u c a) p n r e = let z : _≡_ {A = ℕ} 0 1 = cc in absurd (omega arith)
-was-place σ (toCollect q u m) p n r e = let z : _≡_ {A = ℕ} 0 1 = cc in absurd (omega arith)
+abbrev Told : State → Event → Type 0
+Told σ (made m max r) = Unit {0}
+Told σ (placed p n (done r)) = r .1 ≡ σ .last + 1
+Told σ (placed p n (refused k i)) = Unit {0}
+Told σ (tookUp r) = Unit {0}
+Told σ (answered t c a r) = Unit {0}
+Told σ (collected p t out (done n) exit) = Collection σ p t out n exit
+Told σ (collected p t out (refused k i) exit) = Unit {0}
+
+told-idle : {σ : State} {e : Event} → Idle σ e → Told σ e
+told-idle (no-make m max k i) = tt
+told-idle (other-make m max r) = tt
+told-idle (no-place p n k i) = tt
+told-idle (no-take-up k i) = tt
+told-idle (again s) = tt
+told-idle (no-answer t c a k i) = tt
+told-idle (no-collect p t out k i) = tt
+
+pub told : {σ σ′ : State} {e : Event} → Did σ e σ′ → Told σ e
+told (nothing i) = told-idle i
+told (places w) = refl
+told (takes w) = tt
+told (answers w) = tt
+told (collects {s = s} w) = record { number = s; collects-it = w; its-length = refl; its-output = refl }

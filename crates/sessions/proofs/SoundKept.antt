@@ -160,7 +160,7 @@ module _ (σ : State) (ok : Sound σ) where
         in-hand = λ i f. let z : _≡_ {A = ℕ} 0 1 = cc in absurd (omega arith);
       }
 
-  collect-sound : {s p t : ℕ} → Collects σ s p t → Sound (afterCollect σ s)
+  collect-sound : {s p t : ℕ} {out : List ℕ} → Collects σ s p t out → Sound (afterCollect σ s)
   collect-sound {s} w =
       record {
         max-low = ok .max-low;

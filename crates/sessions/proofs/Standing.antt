@@ -7,11 +7,11 @@ use native.Mathlib.Omega.{arith}
 use lib.ListN.{length}
 use Rattle.sessions.specs.Find.{put}
 use Rattle.sessions.specs.declared.Answer.{Answer}
-use Rattle.sessions.specs.Table.{Slot, openSlot, newSlot, withAnswer, numbered, records, lowest}
+use Rattle.sessions.specs.Table.{Slot, openSlot, newSlot, withAnswer, numbered, lowest}
 use Rattle.sessions.proofs.Laws.{put-same, put-other, put-all, numbered-more}
 
 -- The placings, acceptances and collections of a ticket t.
-module _ (last : ℕ) (slot : ℕ → Slot) (t : ℕ) (ps : List (ℕ × ℕ × ℕ)) (qs : List (ℕ × Answer)) (rs : List (ℕ × List ℕ)) where
+module _ (last : ℕ) (slot : ℕ → Slot) (t : ℕ) (ps : List (ℕ × ℕ × ℕ)) (qs : List (ℕ × Answer)) (rs : List ℕ) where
   pub record New : Type 0 where
     pub nowhere : 1 ≤ t → (s : ℕ) → slot s .ticket ≡ t → ⊥
     pub no-placing : ps ≡ []
@@ -37,7 +37,7 @@ module _ (last : ℕ) (slot : ℕ → Slot) (t : ℕ) (ps : List (ℕ × ℕ × 
     pub one-placing : ps ≡ (number, what .program, what .count) ∷ []
     pub its-answers : qs ≡ numbered 1 (what .answers)
     pub all-answered : length (what .answers) ≡ what .count
-    pub one-reply : rs ≡ (what .program, records qs) ∷ []
+    pub one-reply : rs ≡ what .program ∷ []
 
   pub data Standing : Type 0 where
     new : New → Standing
@@ -45,12 +45,12 @@ module _ (last : ℕ) (slot : ℕ → Slot) (t : ℕ) (ps : List (ℕ × ℕ × 
     gone : Gone → Standing
 
 -- a ticket that stands at s is held there
-pub record At (x : Slot) (s : ℕ) (ps : List (ℕ × ℕ × ℕ)) (qs : List (ℕ × Answer)) (rs : List (ℕ × List ℕ)) : Type 0 where
+pub record At (x : Slot) (s : ℕ) (ps : List (ℕ × ℕ × ℕ)) (qs : List (ℕ × Answer)) (rs : List ℕ) : Type 0 where
   pub one-placing : ps ≡ (s, x .program, x .count) ∷ []
   pub its-answers : qs ≡ numbered 1 (x .answers)
   pub no-reply : rs ≡ []
 
-module _ (last : ℕ) (slot : ℕ → Slot) (t : ℕ) (ps : List (ℕ × ℕ × ℕ)) (qs : List (ℕ × Answer)) (rs : List (ℕ × List ℕ)) (s : ℕ) where
+module _ (last : ℕ) (slot : ℕ → Slot) (t : ℕ) (ps : List (ℕ × ℕ × ℕ)) (qs : List (ℕ × Answer)) (rs : List ℕ) (s : ℕ) where
   -- a change at s that has nothing to do with t
   pub apart : (last′ : ℕ) (x : Slot) → last ≤ last′ → (1 ≤ t → slot s .ticket ≡ t → ⊥) → (1 ≤ t → x .ticket ≡ t → ⊥)
       → Standing last slot t ps qs rs → Standing last′ (put slot s x) t ps qs rs
@@ -133,7 +133,7 @@ module _ (last : ℕ) (slot : ℕ → Slot) (t : ℕ) (ps : List (ℕ × ℕ × 
 
     -- its collection
     pub its-collection : length (slot s .answers) ≡ slot s .count → Standing last slot t ps qs rs
-        → Standing last (put slot s openSlot) t ps qs ((slot s .program, records (numbered 1 (slot s .answers))) ∷ rs)
+        → Standing last (put slot s openSlot) t ps qs (slot s .program ∷ rs)
     its-collection all w =
         let h = held-at w in
         gone (record {
@@ -145,5 +145,5 @@ module _ (last : ℕ) (slot : ℕ → Slot) (t : ℕ) (ps : List (ℕ × ℕ × 
           one-placing = h .one-placing;
           its-answers = h .its-answers;
           all-answered = all;
-          one-reply = rw (h .its-answers, h .no-reply);
+          one-reply = rw (h .no-reply);
         })

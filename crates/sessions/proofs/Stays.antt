@@ -2,7 +2,7 @@
 use mathlib.Core.Path.{_≡_, refl}
 use mathlib.Core.Bool.{Bool, true, false, false≢true}
 use Rattle.counts.specs.Result.{Result, refused, done}
-use Rattle.sessions.specs.History.{Event, placed, tookUp, answered, collected}
+use Rattle.sessions.specs.History.{Event, made, placed, tookUp, answered, collected}
 use Rattle.sessions.specs.Table.{State}
 use Rattle.sessions.proofs.Did.{Did, nothing, places, takes, answers, collects}
 
@@ -11,10 +11,11 @@ isRefusal (refused k i) = true
 isRefusal (done x) = false
 
 abbrev pub refuses : Event → Bool
+refuses (made m max r) = isRefusal r
 refuses (placed p n r) = isRefusal r
 refuses (tookUp r) = isRefusal r
 refuses (answered t c a r) = isRefusal r
-refuses (collected p t room r) = isRefusal r
+refuses (collected p t out r exit) = isRefusal r
 
 pub refused-stays : {σ σ′ : State} {e : Event} → Did σ e σ′ → refuses e ≡ true → σ′ ≡ σ
 refused-stays (nothing i) q = refl
