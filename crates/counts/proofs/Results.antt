@@ -3,7 +3,8 @@ use Prim.Native.Nat.{ℕ, suc}
 use mathlib.Core.Path.{_≡_, refl}
 use mathlib.Core.Bool.{Bool, true, false, cond}
 use native.Mathlib.Omega.{arith}
-use Rattle.counts.specs.Result.{Result, refused, done}
+use Rattle.counts.specs.Refusals.{refusal}
+use Rattle.counts.specs.Result.{Result, refused, done, refusedAs}
 use Rattle.counts.specs.declared.Refusal.{Refusal}
 
 module _ {A : Type 0} where
@@ -16,6 +17,9 @@ module _ {A : Type 0} where
   passed false x n p h = absurd (refused-not-done h)
 
 -- a refusal is its number and its place
+pub refused-as-is : {A : Type 0} (number place : ℕ) → refusedAs {A = A} (refusal number place) ≡ refused number place
+refused-as-is number place = refl
+
 pub same-refusal : {r t : Refusal} → r .number ≡ t .number → r .place ≡ t .place → r ≡ t
 same-refusal p q = λ i. record { number = p i; place = q i }
 

@@ -1,6 +1,11 @@
 -- What document 01 has a call answer: a refusal with its number and place, or what was asked for. Assumes nothing.
 use Prim.Native.Nat.{ℕ}
+use Rattle.counts.specs.declared.Refusal.{Refusal}
 
 pub data Result (A : Type 0) : Type 0 where
   refused : (number place : ℕ) → Result A
   done : A → Result A
+
+-- "A refusal returns its number, the place for 3 to 6 in a file (else 0)"
+abbrev pub refusedAs : {A : Type 0} → Refusal → Result A
+refusedAs r = refused (r .number) (r .place)

@@ -7,7 +7,7 @@ use lib.ListN.{length}
 use Rattle.laws.proofs.Choose.{choose}
 use Rattle.decimal.specs.declared.DigitsRead.{DigitsRead}
 use Rattle.decimal.specs.declared.DigitsRead.the-variants.{Value, NotDigits}
-use Rattle.record.specs.Reading.{onDigits, onField, onOutcome, fieldAfter, outcomeRead, numberIn, ifRealTime, restRead, noRecord, readSays}
+use Rattle.record.specs.Reading.{commandSays, onDigits, onField, onOutcome, fieldAfter, outcomeRead, numberIn, ifRealTime, restRead, noRecord, readSays}
 use Rattle.record.proofs.Fields.{field-lt}
 use Rattle.record.proofs.Outcomes.{outcome-in}
 use Rattle.counts.specs.Refusals.{notARecord, refusal}
@@ -16,6 +16,9 @@ use Rattle.record.specs.declared.Outcome.{Outcome}
 use Rattle.record.specs.declared.Record.{Record}
 use Rattle.record.specs.declared.RecordRead.{RecordRead}
 use Rattle.record.specs.declared.RecordRead.the-variants.{Refused}
+use Rattle.counts.specs.declared.CommandNumber.{CommandNumber}
+use Rattle.record.specs.declared.CommandRead.{CommandRead}
+use Rattle.record.specs.declared.CommandRead.the-variants.{Command, NoCommand}
 use Rattle.record.specs.declared.FieldRead.{FieldRead}
 use Rattle.record.specs.declared.FieldRead.the-variants.{Field, NoField}
 use Rattle.record.specs.declared.OutcomeRead.{OutcomeRead}
@@ -33,6 +36,13 @@ module _ (R : Type 0) (x stop : R) where
 
   pub no-field : (go : ℕ → R) (d e : FieldRead) → d ≡ e → d ≡ NoField → x ≡ stop → x ≡ onField e stop go
   no-field go d e p q h = rw (sym p ∙ q) h
+
+  pub command-read : (go : ℕ → R) (d : CommandRead) (e : FieldRead) (n : CommandNumber) → commandSays d ≡ e → d ≡ Command n → x ≡ go (n .0)
+      → x ≡ onField e stop go
+  command-read go d e n p q h = rw (sym p ∙ ap commandSays q) h
+
+  pub no-command : (go : ℕ → R) (d : CommandRead) (e : FieldRead) → commandSays d ≡ e → d ≡ NoCommand → x ≡ stop → x ≡ onField e stop go
+  no-command go d e p q h = rw (sym p ∙ ap commandSays q) h
 
   pub outcome-read : (go : Outcome → ℕ → R) (d e : OutcomeRead) (o : Outcome) (next : ℕ) → d ≡ e → d ≡ Found o next → x ≡ go o next
       → x ≡ onOutcome e stop go
@@ -65,4 +75,4 @@ outcome-room s at d o start p q = outcome-in s at o start (sym p ∙ q)
 pub outcome-of : (r : OutcomeRead) (s : List ℕ) (w v : ℕ) → r ≡ outcomeRead s (8 + w) → w ≡ v → r ≡ outcomeRead s (8 + v)
 outcome-of r s w v p q = p ∙ ap (λ (k : ℕ). outcomeRead s (8 + k)) q
 
-pub ruleset reads = (choose, digits-read, no-digits, field-read, no-field, outcome-read, no-outcome, two, time-of, number-of, rest-of, says-none, outcome-room, outcome-of)
+pub ruleset reads = (choose, digits-read, no-digits, field-read, no-field, command-read, no-command, outcome-read, no-outcome, two, time-of, number-of, rest-of, says-none, outcome-room, outcome-of)

@@ -6,7 +6,7 @@ use lib.Dec.{eqb, leb}
 use lib.ListN.{length}
 use Rattle.counts.specs.Limits.{textBytes}
 use Rattle.counts.specs.Refusals.{notARecord}
-use Rattle.counts.specs.Result.{Result, refused, done}
+use Rattle.counts.specs.Result.{Result, refused, done, refusedAs}
 use Rattle.field.specs.Bytes.{ascii, hasAt}
 use Rattle.field.specs.Part.{part}
 use Rattle.decimal.specs.Digits.{plainWidth}
@@ -20,6 +20,8 @@ use Rattle.record.specs.Record.{Content, content, momentLength}
 use Rattle.record.specs.declared.Outcome.{Outcome}
 use Rattle.record.specs.declared.Outcome.the-variants.{Processed, Error}
 use Rattle.record.specs.declared.Record.{Record}
+use Rattle.record.specs.declared.CommandRead.{CommandRead}
+use Rattle.record.specs.declared.CommandRead.the-variants.{Command, NoCommand}
 use Rattle.record.specs.declared.FieldRead.{FieldRead}
 use Rattle.record.specs.declared.FieldRead.the-variants.{Field, NoField}
 use Rattle.record.specs.declared.OutcomeRead.{OutcomeRead}
@@ -40,6 +42,11 @@ onField NoField stop go = stop
 abbrev pub onOutcome : {R : Type 0} → OutcomeRead → R → (Outcome → ℕ → R) → R
 onOutcome (Found outcome next) stop go = go outcome next
 onOutcome NoOutcome stop go = stop
+
+-- a command's number is a field
+abbrev pub commandSays : CommandRead → FieldRead
+commandSays (Command n) = Field (n .0)
+commandSays NoCommand = NoField
 
 -- ---- the fields
 
@@ -121,7 +128,7 @@ contentOf s r = content (r .number .0) (r .outcome) (part s (r .start) (r .lengt
 
 abbrev pub readSays : RecordRead → Result Record
 readSays (Taken r) = done r
-readSays (Refused r) = refused (r .number) (r .place)
+readSays (Refused r) = refusedAs r
 
 -- the same with the text for its place
 abbrev pub withText : List ℕ → Result Record → Result Content

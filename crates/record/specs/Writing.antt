@@ -6,7 +6,7 @@ use mathlib.Core.List.{List, _++_}
 use lib.Dec.{eqb, leb}
 use lib.ListN.{length}
 use Rattle.counts.specs.Refusals.{notARecord, notReal, tooLittleRoom}
-use Rattle.counts.specs.Result.{Result, refused, done}
+use Rattle.counts.specs.Result.{Result, refused, done, refusedAs}
 use Rattle.field.specs.Part.{put, Wrote}
 use Rattle.decimal.specs.Digits.{digits}
 use Rattle.record.specs.Record.{Content, inRange, isReal, recordBytes}
@@ -44,4 +44,4 @@ pub record WroteAfter (d : List ℕ) (at : ℕ) (word : List ℕ) (w n : ℕ) (e
 -- the paper's number and values of each answer
 abbrev pub writeSays : Written → Result ℕ
 writeSays (Bytes n) = done n
-writeSays (Refused r) = refused (r .number) (r .place)
+writeSays (Refused r) = refusedAs r

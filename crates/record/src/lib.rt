@@ -18,7 +18,7 @@ ghost use Rattle.counts.specs.Refusals.{notARecord, refusal};
 ghost use Rattle.field.specs.Part.{Wrote};
 ghost use Rattle.decimal.specs.Digits.{plainWidth};
 ghost use Rattle.record.specs.Record.{content, isText, isOutcome, inRange, isReal, outcomeBytes, momentBytes, momentLength, recordBytes, fixedLength};
-ghost use Rattle.record.specs.Reading.{fieldAfter, numberIn, numberRead, errorRead, outcomeRead, dateRead, ifRealTime, timeRead, restRead, textRead, recordRead, readSays, textOf};
+ghost use Rattle.record.specs.Reading.{commandSays, fieldAfter, numberIn, numberRead, errorRead, outcomeRead, dateRead, ifRealTime, timeRead, restRead, textRead, recordRead, readSays, textOf};
 ghost use Rattle.record.specs.Writing.{Fits, WroteAfter, writeRefusal, written, writtenBytes, writeSays};
 
 // What a command came to: PROCESSED, or ERROR with class and code.
@@ -54,6 +54,11 @@ enum FieldRead {
     NoField,
 }
 
+enum CommandRead {
+    Command(CommandNumber),
+    NoCommand,
+}
+
 enum OutcomeRead {
     Found(Outcome, usize),
     NoOutcome,
@@ -77,23 +82,23 @@ fn field_after(s: &[u8], at: usize, word: &[u8], width: usize) -> FieldRead
 }
 
 // Reads COMMAND and the number in the width digits after it.
-fn number_in(s: &[u8], width: usize) -> FieldRead
-    ensures { λ r. ⌜ r ≡ numberIn commands (now (s .entry)) width ⌝ }
+fn number_in(s: &[u8], width: usize) -> CommandRead
+    ensures { λ r. ⌜ commandSays r ≡ numberIn commands (now (s .entry)) width ⌝ }
 {
     if (1 <= width) & (width <= 8) {
         let FieldRead::Field(n) = field_after(s, 0, b"COMMAND ", width) else {
-            return FieldRead::NoField;
+            return CommandRead::NoCommand;
         };
         if (1 <= n) & (n <= COMMANDS) & (decimal::plain_width(n as u64) == width) {
-            return FieldRead::Field(n);
+            return CommandRead::Command(CommandNumber(n));
         }
     }
-    FieldRead::NoField
+    CommandRead::NoCommand
 }
 
 // Reads COMMAND and the number in all digits that stand after it.
-fn number_at(s: &[u8]) -> FieldRead
-    ensures { λ r. ⌜ r ≡ numberRead commands (now (s .entry)) ⌝ }
+fn number_at(s: &[u8]) -> CommandRead
+    ensures { λ r. ⌜ commandSays r ≡ numberRead commands (now (s .entry)) ⌝ }
 {
     number_in(s, scan::run_end(s, 8, scan::DIGIT) - 8)
 }
@@ -126,10 +131,11 @@ fn outcome_at(s: &[u8], at: usize) -> OutcomeRead
     error_at(s, at)
 }
 
-// The outcome after the number n.
-fn outcome_after(s: &[u8], n: u32) -> OutcomeRead
-    ensures { λ r. ⌜ r ≡ outcomeRead (now (s .entry)) (8 + plainWidth n) ⌝ }
+// The outcome after the number.
+fn outcome_after(s: &[u8], number: CommandNumber) -> OutcomeRead
+    ensures { λ r. ⌜ r ≡ outcomeRead (now (s .entry)) (8 + plainWidth (number .0)) ⌝ }
 {
+    let n = number.0;
     outcome_at(s, 8 + decimal::plain_width(n as u64))
 }
 
@@ -186,9 +192,15 @@ fn no_record() -> RecordRead
 }
 
 // Reads what follows the text, which runs from start to end, to the very end of s.
-fn rest_at(s: &[u8], n: u32, outcome: Outcome, start: usize, end: usize) -> RecordRead
+fn rest_at(
+    s: &[u8],
+    number: CommandNumber,
+    outcome: Outcome,
+    start: usize,
+    end: usize,
+) -> RecordRead
     requires { ⌜ (start ≤ end) × (end ≤ length (now s)) ⌝ }
-    ensures { λ r. ⌜ readSays r ≡ restRead (now (s .entry)) n outcome start end ⌝ }
+    ensures { λ r. ⌜ readSays r ≡ restRead (now (s .entry)) (number .0) outcome start end ⌝ }
 {
     let length = end - start;
     if (length <= TEXT_BYTES) & (s.len() - end == MOMENT_BYTES) {
@@ -200,7 +212,7 @@ fn rest_at(s: &[u8], n: u32, outcome: Outcome, start: usize, end: usize) -> Reco
         };
         if field::has_at(s, end + 19, b";\r\n") {
             return RecordRead::Taken(Record {
-                number: CommandNumber(n),
+                number,
                 outcome,
                 start,
                 length,
@@ -214,24 +226,30 @@ fn rest_at(s: &[u8], n: u32, outcome: Outcome, start: usize, end: usize) -> Reco
 }
 
 // Reads the text and what follows it.
-fn text_at(s: &[u8], n: u32, outcome: Outcome, start: usize) -> RecordRead
+fn text_at(s: &[u8], number: CommandNumber, outcome: Outcome, start: usize) -> RecordRead
     requires { ⌜ start ≤ length (now s) ⌝ }
-    ensures { λ r. ⌜ readSays r ≡ textRead (now (s .entry)) n outcome start ⌝ }
+    ensures { λ r. ⌜ readSays r ≡ textRead (now (s .entry)) (number .0) outcome start ⌝ }
 {
-    rest_at(s, n, outcome, start, scan::run_end(s, start, scan::TEXT))
+    rest_at(
+        s,
+        number,
+        outcome,
+        start,
+        scan::run_end(s, start, scan::TEXT),
+    )
 }
 
 // Reads the whole of bytes as one record.
 pub fn read_record(bytes: &[u8]) -> RecordRead
     ensures { λ r. ⌜ readSays r ≡ recordRead commands (now (bytes .entry)) ⌝ }
 {
-    let FieldRead::Field(n) = number_at(bytes) else {
+    let CommandRead::Command(number) = number_at(bytes) else {
         return no_record();
     };
-    let OutcomeRead::Found(outcome, start) = outcome_after(bytes, n) else {
+    let OutcomeRead::Found(outcome, start) = outcome_after(bytes, number) else {
         return no_record();
     };
-    text_at(bytes, n, outcome, start)
+    text_at(bytes, number, outcome, start)
 }
 
 // The text of a record, as a part of its bytes. Where the bytes are no record it is the empty part.
@@ -263,9 +281,10 @@ fn is_text(text: &[u8]) -> bool
     (text.len() <= TEXT_BYTES) & scan::is_all_text(text)
 }
 
-fn in_range(n: u32, outcome: Outcome, text: &[u8]) -> bool
-    ensures { λ r. ⌜ r ≡ inRange commands n outcome (now (text .entry)) ⌝ }
+fn in_range(number: CommandNumber, outcome: Outcome, text: &[u8]) -> bool
+    ensures { λ r. ⌜ r ≡ inRange commands (number .0) outcome (now (text .entry)) ⌝ }
 {
+    let n = number.0;
     (1 <= n) & (n <= COMMANDS) & is_outcome(outcome) & is_text(text)
 }
 
@@ -307,8 +326,7 @@ fn write_refusal(
 ) -> u32
     ensures { λ r. ⌜ r ≡ writeRefusal commands (content (number .0) outcome (now (text .entry)) date time) room ⌝ }
 {
-    let n = number.0;
-    if in_range(n, outcome, text) {
+    if in_range(number, outcome, text) {
         if is_real(date, time) {
             if record_length(number, outcome, text.len()) <= room {
                 return 0;

@@ -13,7 +13,7 @@ use Rattle.decimal.specs.declared.DigitsRead.{DigitsRead}
 use Rattle.decimal.specs.declared.DigitsRead.the-variants.{Value, NotDigits}
 use Rattle.counts.specs.Limits.{sessions}
 use Rattle.counts.specs.Refusals.{outOfRange, tooLittleRoom}
-use Rattle.counts.specs.Result.{Result, refused, done}
+use Rattle.counts.specs.Result.{Result, refused, done, refusedAs}
 use Rattle.session_name.specs.declared.Kind.{Kind}
 use Rattle.session_name.specs.declared.Kind.the-variants.{Request, Response}
 use Rattle.session_name.specs.declared.NameRead.{NameRead}
@@ -73,11 +73,11 @@ nameRead max name = cond (isFramed max name) (numberRead max name (digitsRead 4 
 
 abbrev pub readSays : NameRead → Result (ℕ × Kind)
 readSays (Named n kind) = done (n .0, kind)
-readSays (Refused r) = refused (r .number) (r .place)
+readSays (Refused r) = refusedAs r
 
 abbrev pub writeSays : NameWritten → Result ℕ
 writeSays (Bytes n) = done n
-writeSays (NotWritten r) = refused (r .number) (r .place)
+writeSays (NotWritten r) = refusedAs r
 
 -- ---- the contracts of the two calls: the answer, and every lent byte at exit
 

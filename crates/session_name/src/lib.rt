@@ -42,15 +42,15 @@ fn no_name() -> NameRead
     NameRead::Refused(Refusal::plain(OUT_OF_RANGE))
 }
 
-// The name's last four bytes, once its number n is read.
-fn kind_read(name: &[u8], n: u32) -> NameRead
-    ensures { λ r. ⌜ readSays r ≡ kindRead n (now (name .entry)) ⌝ }
+// The name's last four bytes, once its number is read.
+fn kind_read(name: &[u8], number: SessionNumber) -> NameRead
+    ensures { λ r. ⌜ readSays r ≡ kindRead (number .0) (now (name .entry)) ⌝ }
 {
     if field::has_at(name, 8, b".REQ") {
-        return NameRead::Named(SessionNumber(n), Kind::Request);
+        return NameRead::Named(number, Kind::Request);
     }
     if field::has_at(name, 8, b".RSP") {
-        return NameRead::Named(SessionNumber(n), Kind::Response);
+        return NameRead::Named(number, Kind::Response);
     }
     no_name()
 }
@@ -70,7 +70,7 @@ fn number_read(name: &[u8], max: u32, digits: DigitsRead) -> NameRead
         return no_name();
     };
     if n < max as u64 {
-        kind_read(name, n as u32)
+        kind_read(name, SessionNumber(n as u32))
     } else {
         no_name()
     }
@@ -87,10 +87,10 @@ pub fn read_name(name: &[u8], max: u32) -> NameRead
     }
 }
 
-fn write_refusal(max: u32, n: u32, room: usize) -> u32
-    ensures { λ r. ⌜ r ≡ writeRefusal max n room ⌝ }
+fn write_refusal(max: u32, number: SessionNumber, room: usize) -> u32
+    ensures { λ r. ⌜ r ≡ writeRefusal max (number .0) room ⌝ }
 {
-    if is_max(max) & (n < max) {
+    if is_max(max) & (number.0 < max) {
         if NAME_BYTES <= room {
             0
         } else {
@@ -111,12 +111,13 @@ fn put_ending(out: &mut [u8], at: usize, kind: Kind) -> usize
     }
 }
 
-fn put_name(out: &mut [u8], n: u32, kind: Kind) -> usize
-    requires { ⌜ (12 ≤ length (now out)) × (n < 10000) ⌝ }
-    ensures { λ r. ⌜ Wrote (now (out .entry)) 0 (nameOf n kind) (now (out .exit)) r ⌝ }
+fn put_name(out: &mut [u8], number: SessionNumber, kind: Kind) -> usize
+    requires { ⌜ (12 ≤ length (now out)) × (number .0 < 10000) ⌝ }
+    ensures { λ r. ⌜ Wrote (now (out .entry)) 0 (nameOf (number .0) kind) (now (out .exit)) r ⌝ }
 {
-    let number = field::put_bytes(out, 0, b"SESS");
-    let last = decimal::put_digits(out, number, 4, n as u64);
+    let n = number.0;
+    let digits = field::put_bytes(out, 0, b"SESS");
+    let last = decimal::put_digits(out, digits, 4, n as u64);
     put_ending(out, last, kind)
 }
 
@@ -124,10 +125,9 @@ fn put_name(out: &mut [u8], n: u32, kind: Kind) -> usize
 pub fn write_name(number: SessionNumber, kind: Kind, max: u32, out: &mut [u8]) -> NameWritten
     ensures { λ r. ⌜ WritesName max (number .0) kind (now (out .entry)) (now (out .exit)) r ⌝ }
 {
-    let n = number.0;
-    let no = write_refusal(max, n, out.len());
+    let no = write_refusal(max, number, out.len());
     if no == 0 {
-        NameWritten::Bytes(put_name(out, n, kind))
+        NameWritten::Bytes(put_name(out, number, kind))
     } else {
         NameWritten::Refused(Refusal::plain(no))
     }

@@ -13,12 +13,13 @@ use Rattle.counts.specs.Result.{done}
 use Rattle.counts.specs.declared.Refusal.{Refusal}
 use Rattle.field.specs.Part.{put, Wrote}
 use Rattle.sessions.proofs.Laws.{must-find, is-ready, refused≢done}
-use Rattle.sessions.proofs.Loops.{found-at, found-none, find-at, all-real}
-use Rattle.sessions.specs.Find.{Found, at, orNone, find, all}
+use Rattle.sessions.proofs.Loops.{find-at, all-real}
+use Rattle.sessions.specs.Find.{none, at, orNone, all}
 use Rattle.sessions.specs.Table.{within, isReady, reply, collect, collectFrom}
 use Rattle.table_layout.specs.Layout.{number, maxAt, answeredAt, entryOf, headOf}
 use Rattle.table_layout.specs.declared.Head.{Head}
 use Rattle.table_reply.specs.Reply.{replyOf}
+use Rattle.table_search.specs.Search.{readyFound}
 use Rattle.table_search.proofs.Sounds.{Stands, stands}
 use Rattle.table_sound.proofs.Slots.{answers-held}
 use Rattle.sessions.specs.Sound.{isReal, allReal}
@@ -29,9 +30,6 @@ use Rattle.session_table.specs.Paper.{paperCollected}
 use Rattle.session_table.specs.declared.Collected.the-variants.{Written, Refused as NotCollected}
 use Rattle.session_table.proofs.Verdicts.{passed, passed-both, is-done, is-refused, keeps-bytes}
 
-abbrev pub readyFound : List ℕ → ℕ → ℕ → Found
-readyFound b p t = find (number b maxAt) (λ s. isReady p t (slotOf b s))
-
 module _ (b : List ℕ) (p t room : ℕ) where
   pub collect-13 : soundBytes b ≡ false → verdict unsound ≡ only (collecting b p t room)
   unfolding collecting
@@ -41,21 +39,22 @@ module _ (b : List ℕ) (p t room : ℕ) where
   unfolding collecting collect
   collect-11 e q = rw (e, q)
 
-  module _ (sound : soundBytes b ≡ true) (range : within 1 p programs ≡ true) (s : ℕ) (found : s ≡ readyIn b p t) where
-    pub collect-10 : number b maxAt ≤ s → verdict notTheOne ≡ only (collecting b p t room)
+  module _ (sound : soundBytes b ≡ true) (range : within 1 p programs ≡ true) where
+    pub collect-10 : readyFound b p t ≡ none → verdict notTheOne ≡ only (collecting b p t room)
     unfolding collecting collect collectFrom
-    collect-10 l = rw (sound, range, found-none (λ i. isReady p t (slotOf b i)) (number b maxAt) found l)
+    collect-10 e = rw (sound, range, e)
 
-    pub collect-8 : s < number b maxAt → room < length (reply (slotOf b s)) → verdict tooLittleRoom ≡ only (collecting b p t room)
-    unfolding collecting collect collectFrom
-    collect-8 l k = rw (sound, range, found-at (readyFound b p t) found l, lt-leb (length (reply (slotOf b s))) room k)
+    module _ (s : ℕ) (found : readyFound b p t ≡ at s) where
+      pub collect-8 : room < length (reply (slotOf b s)) → verdict tooLittleRoom ≡ only (collecting b p t room)
+      unfolding collecting collect collectFrom
+      collect-8 k = rw (sound, range, found, lt-leb (length (reply (slotOf b s))) room k)
 
-    collect-is : s < number b maxAt → length (reply (slotOf b s)) ≤ room → done (reply (slotOf b s)) ≡ collecting b p t room
-    unfolding collecting collect collectFrom
-    collect-is l k = rw (sound, range, found-at (readyFound b p t) found l, le-leb (length (reply (slotOf b s))) room k)
+      collect-is : length (reply (slotOf b s)) ≤ room → done (reply (slotOf b s)) ≡ collecting b p t room
+      unfolding collecting collect collectFrom
+      collect-is k = rw (sound, range, found, le-leb (length (reply (slotOf b s))) room k)
 
-    pub collect-0 : s < number b maxAt → length (reply (slotOf b s)) ≤ room → verdict 0 ≡ only (collecting b p t room)
-    collect-0 l k = rw (← (collect-is l k))
+      pub collect-0 : length (reply (slotOf b s)) ≤ room → verdict 0 ≡ only (collecting b p t room)
+      collect-0 k = rw (← (collect-is k))
 
   -- the two halves together: no refusal, or the one that was found and no byte changed
   module _ (no : ℕ) (said : verdict no ≡ only (collecting b p t room)) where
@@ -99,26 +98,23 @@ module _ (b : List ℕ) (p t room : ℕ) where
       }
 
   module _ (w : Collectable) (s : ℕ) (found : s ≡ readyIn b p t) where
-    pub is-number : s ≡ w .number-ready
+    is-number : s ≡ w .number-ready
     is-number = found ∙ ap (λ f. orNone f (number b maxAt)) (w .found)
-
-    pub collect-below : s < number b maxAt
-    collect-below = omega (arith, is-number, w .below)
 
     pub collect-room : length (reply (slotOf b s)) ≤ room
     collect-room = rw is-number (w .room-enough)
 
-    pub collect-done : done (reply (slotOf b s)) ≡ collecting b p t room
-    collect-done = collect-is (w .sound) (w .range) s found collect-below collect-room
+    collect-done : done (reply (slotOf b s)) ≡ collecting b p t room
+    collect-done = collect-is (w .sound) (w .range) s (w .found ∙ ap at (sym is-number)) collect-room
 
     pub collect-leaves : collectedAt b s ≡ collectedBytes b p t room
     unfolding collectedBytes
     collect-leaves = rw (← collect-done) (ap (collectedAt b) found)
 
 -- the session that is collected, on its bytes
-module _ (b : List ℕ) (p t : ℕ) (sound : soundBytes b ≡ true) (low : 1 ≤ p) (s : ℕ) (found : s ≡ readyIn b p t) (below : s < number b maxAt) where
+module _ (b : List ℕ) (p t : ℕ) (sound : soundBytes b ≡ true) (low : 1 ≤ p) (s : ℕ) (found : readyFound b p t ≡ at s) where
   facts : (slotOf b s .program ≡ p) × (slotOf b s .ticket ≡ t) × (length (slotOf b s .answers) ≡ slotOf b s .count)
-  facts = is-ready p t (slotOf b s) (find-at (λ i. isReady p t (slotOf b i)) (number b maxAt) (found-at (readyFound b p t) found below) .1)
+  facts = is-ready p t (slotOf b s) (find-at (λ i. isReady p t (slotOf b i)) (number b maxAt) found .1)
 
   pub ready-stands : Stands b sound s
   ready-stands = stands b sound (λ x. x .program) refl s (omega (arith, facts .0))

@@ -1,4 +1,5 @@
 pub mod Verdicts
+pub mod Searches
 pub mod Making
 pub mod Placing
 pub mod Hands

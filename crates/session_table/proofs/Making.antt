@@ -1,6 +1,6 @@
 -- Making: the ways through its tests, and what it leaves. Assumes nothing.
 use Prim.Native.Nat.{ℕ, _≤_}
-use mathlib.Core.Path.{_≡_, _∙_, ap, sym}
+use mathlib.Core.Path.{_≡_, refl, _∙_}
 use mathlib.Core.Bool.{true, false}
 use mathlib.Core.List.{List}
 use lib.Dec.{eqb}
@@ -8,15 +8,29 @@ use lib.ListN.{length, replicate}
 use borrow.Author.Tests.{eqb-true, eq-eqb, ne-eqb}
 use Rattle.counts.specs.Limits.{sessions}
 use Rattle.counts.specs.Refusals.{outOfRange, unsound, refusal}
-use Rattle.counts.specs.Result.{done}
+use Rattle.counts.specs.Result.{Result, refused, done}
 use Rattle.sessions.proofs.Laws.{in-range}
 use Rattle.sessions.specs.Table.{within}
 use Rattle.table_layout.specs.Layout.{tableBytes, putTable, freshTable}
 use Rattle.session_table.specs.Calls.{only, verdict, making, freshBytes, madeBytes}
-use Rattle.session_table.proofs.Verdicts.{passed, is-done, is-refused, keeps-bytes}
+use Rattle.session_table.proofs.Verdicts.{passed, is-done, keeps-bytes}
 use Rattle.counts.specs.declared.Refusal.{Refusal}
 use Rattle.session_table.specs.Paper.{paperMade}
-use Rattle.session_table.specs.declared.Made.the-variants.{Refused as NotMade}
+use Rattle.session_table.specs.declared.Made.{Made}
+use Rattle.session_table.specs.declared.Made.the-variants.{Fresh, Refused as NotMade}
+
+only-unit : (x : Result (Unit {0})) → only x ≡ x
+only-unit (refused number place) = refl
+only-unit (done x) = refl
+
+-- the answer, by the number that was found
+pub says-fresh : (number : ℕ) → number ≡ 0 → paperMade Fresh ≡ verdict number
+unfolding paperMade
+says-fresh number e = rw e
+
+pub says-refused : (number : ℕ) → (number ≡ 0 → ⊥) → (f : Refusal) → f ≡ refusal number 0 → paperMade (NotMade f) ≡ verdict number
+unfolding paperMade
+says-refused number n f q = rw (q, ne-eqb number 0 n)
 
 module _ (b : List ℕ) (max : ℕ) where
   pub make-11 : within 1 max sessions ≡ false → verdict outOfRange ≡ only (making b max)
@@ -36,10 +50,12 @@ module _ (b : List ℕ) (max : ℕ) where
     pub make-passes : no ≡ 0 → only (making b max) ≡ done tt
     make-passes = is-done (making b max) no said
 
-    pub make-refuses : (f : Refusal) → f ≡ refusal no 0 → (no ≡ 0 → ⊥) → (paperMade (NotMade f) ≡ making b max) × (b ≡ madeBytes b max)
-    unfolding paperMade madeBytes
-    make-refuses f q d =
-        (ap (λ x. paperMade (NotMade x)) q ∙ sym (is-refused (making b max) no said d), keeps-bytes (making b max) no said b _ d)
+    pub make-keeps : (no ≡ 0 → ⊥) → b ≡ madeBytes b max
+    unfolding madeBytes
+    make-keeps d = keeps-bytes (making b max) no said b _ d
+
+    pub make-says : (r : Made) → paperMade r ≡ verdict no → paperMade r ≡ making b max
+    make-says r e = e ∙ said ∙ only-unit (making b max)
 
   module _ (ok : only (making b max) ≡ done tt) where
     tests : (within 1 max sessions ≡ true) × (eqb (length b) tableBytes ≡ true)

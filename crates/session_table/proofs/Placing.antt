@@ -10,20 +10,18 @@ use Rattle.counts.specs.Limits.{commands, programs, ticketMost}
 use Rattle.counts.specs.Refusals.{allTaken, outOfRange, noTicketLeft, unsound, refusal}
 use Rattle.counts.specs.Result.{done}
 use Rattle.sessions.proofs.Laws.{must-find, refused≢done}
-use Rattle.sessions.proofs.Loops.{found-at, found-none}
 use Rattle.sessions.specs.Find.{Found, at, orNone, find}
 use Rattle.sessions.specs.Table.{within, isOpen, place, placeIn}
 use Rattle.table_layout.specs.Layout.{number, maxAt, lastAt}
 use Rattle.table_sound.specs.Bytes.{slotOf, abs, soundBytes}
 use Rattle.session_table.specs.Calls.{only, verdict, placing, placedAt, placedBytes}
+pub use Rattle.table_search.specs.Search.{openIn}
+use Rattle.table_search.specs.Search.{isFound}
+use Rattle.session_table.proofs.Searches.{not-found, some-found}
 use Rattle.session_table.proofs.Verdicts.{passed, passed-both, is-done, is-refused, keeps-bytes}
 use Rattle.counts.specs.declared.Refusal.{Refusal}
 use Rattle.session_table.specs.Paper.{paperPlaced}
 use Rattle.session_table.specs.declared.Placed.the-variants.{Refused as NotPlaced}
-
--- the lowest open number, as a search finds it
-abbrev pub openIn : List ℕ → Found
-openIn b = find (number b maxAt) (λ s. isOpen (slotOf b s))
 
 module _ (b : List ℕ) (p n : ℕ) where
   abbrev ranges : Bool
@@ -37,21 +35,23 @@ module _ (b : List ℕ) (p n : ℕ) where
   unfolding placing place
   place-11 e q = rw (e, q)
 
-  module _ (sound : soundBytes b ≡ true) (range : ranges ≡ true) (s : ℕ) (found : s ≡ orNone (openIn b) (number b maxAt)) where
-    pub place-9 : number b maxAt ≤ s → verdict allTaken ≡ only (placing b p n)
+  module _ (sound : soundBytes b ≡ true) (range : ranges ≡ true) where
+    pub place-9 : isFound (openIn b) ≡ false → verdict allTaken ≡ only (placing b p n)
     unfolding placing place placeIn
-    place-9 l = rw (sound, range, found-none (λ i. isOpen (slotOf b i)) (number b maxAt) found l)
+    place-9 e = rw (sound, range, not-found (openIn b) e)
 
-    pub place-12 : s < number b maxAt → ticketMost ≤ number b lastAt → verdict noTicketLeft ≡ only (placing b p n)
+    pub place-12 : isFound (openIn b) ≡ true → ticketMost ≤ number b lastAt → verdict noTicketLeft ≡ only (placing b p n)
     unfolding placing place placeIn
-    place-12 l k = rw (sound, range, found-at (openIn b) found l, le-ltb (number b lastAt) ticketMost k)
+    place-12 e k = rw (sound, range, some-found (openIn b) e .1, le-ltb (number b lastAt) ticketMost k)
 
-    place-is : s < number b maxAt → number b lastAt < ticketMost → done (s, number b lastAt + 1) ≡ placing b p n
+    place-is : (s : ℕ) → openIn b ≡ at s → number b lastAt < ticketMost → done (s, number b lastAt + 1) ≡ placing b p n
     unfolding placing place placeIn
-    place-is l k = rw (sound, range, found-at (openIn b) found l, lt-ltb (number b lastAt) ticketMost k)
+    place-is s e k = rw (sound, range, e, lt-ltb (number b lastAt) ticketMost k)
 
-    pub place-0 : s < number b maxAt → number b lastAt < ticketMost → verdict 0 ≡ only (placing b p n)
-    place-0 l k = rw (← (place-is l k))
+    pub place-0 : isFound (openIn b) ≡ true → number b lastAt < ticketMost → verdict 0 ≡ only (placing b p n)
+    place-0 e k =
+        let f = some-found (openIn b) e in
+        rw (← (place-is (f .0) (f .1) k))
 
   -- the two halves together: no refusal, or the one that was found and no byte changed
   module _ (no : ℕ) (said : verdict no ≡ only (placing b p n)) where
@@ -88,11 +88,14 @@ module _ (b : List ℕ) (p n : ℕ) where
       }
 
   module _ (w : Placeable) (s : ℕ) (found : s ≡ orNone (openIn b) (number b maxAt)) where
+    number-is : s ≡ w .number-free
+    number-is = found ∙ ap (λ f. orNone f (number b maxAt)) (w .found)
+
     pub place-below : s < number b maxAt
-    place-below = omega (arith, found ∙ ap (λ f. orNone f (number b maxAt)) (w .found), w .below)
+    place-below = omega (arith, number-is, w .below)
 
     pub place-done : done (s, number b lastAt + 1) ≡ placing b p n
-    place-done = place-is (w .sound) (w .range) s found place-below (w .room)
+    place-done = place-is (w .sound) (w .range) s (w .found ∙ ap at (sym number-is)) (w .room)
 
     pub place-leaves : placedAt b p n (s, number b lastAt + 1) ≡ placedBytes b p n
     unfolding placedBytes

@@ -8,7 +8,7 @@ use Rattle.counts.specs.Refusals.{nothingUnanswered, unsound, refusal}
 use Rattle.counts.specs.Result.{done}
 use Rattle.counts.specs.declared.Refusal.{Refusal}
 use Rattle.sessions.proofs.Laws.{refused≢done}
-use Rattle.sessions.proofs.Loops.{found-at, found-none, find-at}
+use Rattle.sessions.proofs.Loops.{find-at}
 use Rattle.sessions.specs.Find.{Found, none, at, orNone, find}
 use Rattle.sessions.specs.Table.{isWaiting, turn, given, takeNext, takeHand, takeUp}
 use Rattle.table_layout.specs.Layout.{number, maxAt, markAt, handAt, putNumber, headOf}
@@ -20,11 +20,10 @@ use Rattle.session_table.specs.Calls.{only, verdict, takingUp, takenByte
 use Rattle.session_table.specs.Paper.{paperTakenUp}
 use Rattle.session_table.specs.declared.TakenUp.the-variants.{Refused as NotTakenUp}
 use Rattle.session_table.proofs.Hands.{hand-empty, hand-full}
+pub use Rattle.table_search.specs.Search.{nextIn}
+use Rattle.table_search.specs.Search.{turned, waitingIn}
+use Rattle.session_table.proofs.Searches.{none≢at}
 use Rattle.session_table.proofs.Verdicts.{passed, is-done, is-refused, keeps-bytes}
-
--- the next in turn, as a search finds it
-abbrev pub nextIn : List ℕ → Found
-nextIn b = find (number b maxAt) (λ i. isWaiting (slotOf b (turn (abs b) i)))
 
 -- what a session gives
 pub given-is : (b : List ℕ) (s : ℕ) (h : Head) → soundBytes b ≡ true → isWaiting (slotOf b s) ≡ true → h ≡ headOf b s
@@ -51,17 +50,30 @@ module _ (b : List ℕ) where
     pub take-up-again : (number b handAt ≡ 0 → ⊥) → verdict 0 ≡ only (takingUp b)
     take-up-again n = rw (← (take-again n))
 
-    module _ (i : ℕ) (found : i ≡ orNone (nextIn b) (number b maxAt)) (e : number b handAt ≡ 0) where
-      pub take-up-14 : number b maxAt ≤ i → verdict nothingUnanswered ≡ only (takingUp b)
+    module _ (e : number b handAt ≡ 0) where
+      pub take-up-14 : waitingIn b ≡ none → verdict nothingUnanswered ≡ only (takingUp b)
       unfolding takingUp takeUp takeHand takeNext
-      take-up-14 l = rw (sound, hand-empty b _ refl e, found-none (λ k. isWaiting (slotOf b (turn (abs b) k))) (number b maxAt) found l)
+      take-up-14 q = go (nextIn b) refl q
+        where
+          go : (f : Found) → nextIn b ≡ f → turned (abs b) f ≡ none → verdict nothingUnanswered ≡ only (takingUp b)
+          go none p d = rw (sound, hand-empty b _ refl e, p)
+          go (at i) p d = absurd (none≢at (sym d))
 
-      take-next : i < number b maxAt → given (abs b) (turn (abs b) i) ≡ takingUp b
+      take-next : (i : ℕ) → nextIn b ≡ at i → given (abs b) (turn (abs b) i) ≡ takingUp b
       unfolding takingUp takeUp takeHand takeNext
-      take-next l = rw (sound, hand-empty b _ refl e, found-at (nextIn b) found l)
+      take-next i q = rw (sound, hand-empty b _ refl e, q)
 
-      pub take-up-0 : i < number b maxAt → verdict 0 ≡ only (takingUp b)
-      take-up-0 l = rw (← (take-next l))
+      -- the session that the search found
+      pub take-up-0 : (s : ℕ) → waitingIn b ≡ at s → (only (takingUp b) ≡ done tt) × (isWaiting (slotOf b s) ≡ true) × (given (abs b) s ≡ takingUp b)
+      take-up-0 s q = go (nextIn b) refl q
+        where
+          go : (f : Found) → nextIn b ≡ f → turned (abs b) f ≡ at s
+              → (only (takingUp b) ≡ done tt) × (isWaiting (slotOf b s) ≡ true) × (given (abs b) s ≡ takingUp b)
+          go none p d = absurd (none≢at d)
+          go (at i) p d =
+              let t : turn (abs b) i ≡ s = cc in
+              let g = take-next i p in
+              (rw (← g), rw (← t) (find-at (λ k. isWaiting (slotOf b (turn (abs b) k))) (number b maxAt) p .1), rw (← t) g)
 
   -- the two halves together: no refusal, or the one that was found and no byte changed
   module _ (no : ℕ) (said : verdict no ≡ only (takingUp b)) where
@@ -101,15 +113,12 @@ module _ (b : List ℕ) where
           go none q d = absurd (refused≢done d)
           go (at k) q d = q ∙ ap at (sym (found ∙ ap (λ f. orNone f (number b maxAt)) q))
 
-      pub next-below : i < number b maxAt
-      next-below = find-at (λ k. isWaiting (slotOf b (turn (abs b) k))) (number b maxAt) next-found .0
-
-      module _ (s : ℕ) (turned : s ≡ turn (abs b) i) where
+      module _ (s : ℕ) (turned-to : s ≡ turn (abs b) i) where
         pub next-waits : isWaiting (slotOf b s) ≡ true
-        next-waits = rw turned (find-at (λ k. isWaiting (slotOf b (turn (abs b) k))) (number b maxAt) next-found .1)
+        next-waits = rw turned-to (find-at (λ k. isWaiting (slotOf b (turn (abs b) k))) (number b maxAt) next-found .1)
 
-        pub next-done : given (abs b) s ≡ takingUp b
-        next-done = rw turned (take-next take-up-sound i found e next-below)
+        next-done : given (abs b) s ≡ takingUp b
+        next-done = rw turned-to (take-next take-up-sound e i next-found)
 
         pub next-leaves : putNumber (putNumber b markAt s) handAt (s + 1) ≡ takenBytes b
         unfolding takenBytes

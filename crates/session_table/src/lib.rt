@@ -2,7 +2,6 @@
 // document 01's order and 0 for none, and one that does what the call does where there is none. Only take up is one way through, so that it
 // goes round the sessions once.
 use counts::ALL_TAKEN;
-use counts::COMMANDS;
 use counts::CommandNumber;
 use counts::NO_TICKET_LEFT;
 use counts::NOT_A_RECORD;
@@ -10,11 +9,8 @@ use counts::NOT_REAL;
 use counts::NOT_THE_ONE;
 use counts::NOTHING_UNANSWERED;
 use counts::OUT_OF_RANGE;
-use counts::PROGRAMS;
 use counts::Refusal;
-use counts::SESSIONS;
 use counts::SessionNumber;
-use counts::TICKET_MOST;
 use counts::TOO_LITTLE_ROOM;
 use counts::Ticket;
 use counts::UNSOUND;
@@ -22,7 +18,6 @@ use record::Outcome;
 use sessions::Answer;
 use table_layout::Head;
 use table_layout::Table;
-use table_layout::clear;
 use table_layout::get_head;
 use table_layout::get_table;
 use table_layout::put_hand;
@@ -33,7 +28,8 @@ use table_layout::put_program;
 use table_layout::put_table;
 use table_reply::reply_length;
 use table_reply::write_reply;
-use table_search::in_turn;
+use table_search::Found;
+use table_search::has_open;
 use table_search::lowest_open;
 use table_search::next_waiting;
 use table_search::ready_session;
@@ -80,20 +76,31 @@ pub enum Collected {
 fn make_refusal(b: &[u8], max: u32) -> u32
     ensures { λ r. ⌜ verdict r ≡ only (making (now (b .entry)) max) ⌝ }
 {
-    if (1 <= max) & (max <= SESSIONS) {
+    if (1 <= max) & (max <= Table::SESSIONS) {
         if b.len() == Table::SIZE { 0 } else { UNSOUND }
     } else {
         OUT_OF_RANGE
     }
 }
 
-fn make_now(b: &mut [u8], max: u32) -> Made
-    requires { ⌜ only (making (now b) max) ≡ done tt ⌝ }
-    ensures { λ r. ⌜ (paperMade r ≡ making (now (b .entry)) max) × (now (b .exit) ≡ madeBytes (now (b .entry)) max) ⌝ }
+// Where no refusal was found, a fresh table.
+fn make_now(b: &mut [u8], max: u32, found: u32)
+    requires { ⌜ verdict found ≡ only (making (now b) max) ⌝ }
+    ensures { λ _. ⌜ now (b .exit) ≡ madeBytes (now (b .entry)) max ⌝ }
 {
-    clear(b);
-    put_table(b, Table::fresh(max));
-    Made::Fresh
+    if found == 0 {
+        Table::clear(b);
+        put_table(b, Table::fresh(max));
+    }
+}
+
+fn make_answer(no: u32) -> Made
+    ensures { λ r. ⌜ paperMade r ≡ verdict no ⌝ }
+{
+    if no == 0 {
+        return Made::Fresh;
+    }
+    Made::Refused(Refusal::plain(no))
 }
 
 // Makes a fresh table of lent memory, whatever stood there.
@@ -101,16 +108,14 @@ pub fn make(b: &mut [u8], max: u32) -> Made
     ensures { λ r. ⌜ (paperMade r ≡ making (now (b .entry)) max) × (now (b .exit) ≡ madeBytes (now (b .entry)) max) ⌝ }
 {
     let no = make_refusal(b, max);
-    if no == 0 {
-        return make_now(b, max);
-    }
-    Made::Refused(Refusal::plain(no))
+    make_now(b, max, no);
+    make_answer(no)
 }
 
 fn is_placeable(program: u32, count: u32) -> bool
     ensures { λ r. ⌜ r ≡ (within 1 program programs && within 1 count commands) ⌝ }
 {
-    (1 <= program) & (program <= PROGRAMS) & ((1 <= count) & (count <= COMMANDS))
+    (1 <= program) & (program <= Table::PROGRAMS) & ((1 <= count) & (count <= Table::COMMANDS))
 }
 
 fn place_refusal(b: &[u8], program: u32, count: u32) -> u32
@@ -119,8 +124,8 @@ fn place_refusal(b: &[u8], program: u32, count: u32) -> u32
     if is_sound(b) {
         if is_placeable(program, count) {
             let t = get_table(b);
-            if lowest_open(b) < t.max {
-                if t.last.0 < TICKET_MOST {
+            if has_open(b) {
+                if t.last.0 < Table::TICKET_MOST {
                     0
                 } else {
                     NO_TICKET_LEFT
@@ -140,18 +145,20 @@ fn place_now(b: &mut [u8], program: u32, count: u32) -> Placed
     requires { ⌜ only (placing (now b) program count) ≡ done tt ⌝ }
     ensures { λ r. ⌜ (paperPlaced r ≡ placing (now (b .entry)) program count) × (now (b .exit) ≡ placedBytes (now (b .entry)) program count) ⌝ }
 {
-    let s = lowest_open(b);
+    let Found::At(s) = lowest_open(b) else {
+        return Placed::Refused(Refusal::plain(ALL_TAKEN));
+    };
     let last = get_table(b).last;
-    let k = last.0 + 1;
+    let ticket = Ticket(last.0 + 1);
     let h = Head {
         program,
         count,
         answered: 0,
-        ticket: Ticket(k),
+        ticket,
     };
-    put_head(b, SessionNumber(s), h);
-    put_last(b, Ticket(k));
-    Placed::At(SessionNumber(s), Ticket(k))
+    put_head(b, s, h);
+    put_last(b, ticket);
+    Placed::At(s, ticket)
 }
 
 // Takes the lowest open number for a program's commands.
@@ -172,7 +179,8 @@ fn given(b: &[u8], s: SessionNumber) -> TakenUp
 {
     let h = get_head(b, s);
     let t = h.ticket;
-    TakenUp::Given(s, t, CommandNumber(h.answered + 1))
+    let command = CommandNumber(h.answered + 1);
+    TakenUp::Given(s, t, command)
 }
 
 // The session is next in turn: its command is in hand now.
@@ -191,12 +199,10 @@ fn take_up_next(b: &mut [u8]) -> TakenUp
     requires { ⌜ (soundBytes (now b) ≡ true) × (number (now b) handAt ≡ 0) ⌝ }
     ensures { λ r. ⌜ (paperTakenUp r ≡ takingUp (now (b .entry))) × (now (b .exit) ≡ takenBytes (now (b .entry))) ⌝ }
 {
-    let t = get_table(b);
-    let i = next_waiting(b);
-    if i < t.max {
-        return take_up_at(b, in_turn(t, i));
-    }
-    TakenUp::Refused(Refusal::plain(NOTHING_UNANSWERED))
+    let Found::At(s) = next_waiting(b) else {
+        return TakenUp::Refused(Refusal::plain(NOTHING_UNANSWERED));
+    };
+    take_up_at(b, s)
 }
 
 // Gives the command in hand again, or takes up the next.
@@ -231,13 +237,11 @@ fn answer_refusal(b: &[u8], ticket: Ticket, command: CommandNumber, a: Answer) -
 {
     if is_sound(b) {
         if names_hand(b, ticket, command) {
-            if record::is_real(a.date, a.time) {
-                let o = a.outcome;
-                if record::is_outcome(o) {
-                    0
-                } else {
-                    NOT_A_RECORD
-                }
+            let o = a.outcome;
+            let real = record::is_real(a.date, a.time);
+            let in_range = record::is_outcome(o);
+            if real {
+                if in_range { 0 } else { NOT_A_RECORD }
             } else {
                 NOT_REAL
             }
@@ -286,17 +290,15 @@ fn collect_refusal(b: &[u8], program: u32, ticket: Ticket, room: usize) -> u32
     ensures { λ r. ⌜ verdict r ≡ only (collecting (now (b .entry)) program (ticket .0) room) ⌝ }
 {
     if is_sound(b) {
-        if (1 <= program) & (program <= PROGRAMS) {
-            let s = ready_session(b, program, ticket);
-            if s < get_table(b).max {
-                let n = get_head(b, SessionNumber(s)).count;
-                if reply_length(b, SessionNumber(s), n) <= room {
-                    0
-                } else {
-                    TOO_LITTLE_ROOM
-                }
+        if (1 <= program) & (program <= Table::PROGRAMS) {
+            let Found::At(s) = ready_session(b, program, ticket) else {
+                return NOT_THE_ONE;
+            };
+            let n = get_head(b, s).count;
+            if reply_length(b, s, n) <= room {
+                0
             } else {
-                NOT_THE_ONE
+                TOO_LITTLE_ROOM
             }
         } else {
             OUT_OF_RANGE
@@ -310,10 +312,12 @@ fn collect_now(b: &mut [u8], program: u32, ticket: Ticket, out: &mut [u8]) -> Co
     requires { ⌜ only (collecting (now b) program (ticket .0) (length (now out))) ≡ done tt ⌝ }
     ensures { λ r. ⌜ Collects (now (b .entry)) program (ticket .0) (now (out .entry)) r (now (b .exit)) (now (out .exit)) ⌝ }
 {
-    let s = ready_session(b, program, ticket);
-    let n = get_head(b, SessionNumber(s)).count;
-    let written = write_reply(b, SessionNumber(s), n, out);
-    put_program(b, SessionNumber(s), 0);
+    let Found::At(s) = ready_session(b, program, ticket) else {
+        return Collected::Refused(Refusal::plain(NOT_THE_ONE));
+    };
+    let n = get_head(b, s).count;
+    let written = write_reply(b, s, n, out);
+    put_program(b, s, 0);
     Collected::Written(written)
 }
 

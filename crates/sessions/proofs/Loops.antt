@@ -42,18 +42,15 @@ pub find-more : (p : ℕ → Bool) {n : ℕ} → find n p ≡ none → p n ≡ f
 unfolding find
 find-more p {n} h e = rw (add-one, h, e)
 
-find-hit : (p : ℕ → Bool) (m : ℕ) {n : ℕ} → find n p ≡ none → p n ≡ true → n < m → find m p ≡ at n
+-- where a search ends
+pub find-hit : (p : ℕ → Bool) (m : ℕ) {n : ℕ} → find n p ≡ none → p n ≡ true → n < m → find m p ≡ at n
 unfolding find
 find-hit p zero h e l = absurd (omega arith)
 find-hit p (suc m) {n} h e l =
     ⊎-elim (λ q. rw (← q, h, e)) (λ k. rw (find-hit p m h e k)) (eq-or-lt-of-le {n = n} {m = m} (omega arith))
 
--- where a search ends
-pub hit-is : (p : ℕ → Bool) (m k : ℕ) {n : ℕ} → find n p ≡ none → p n ≡ true → n < m → n ≡ orNone (find m p) k
-hit-is p m k h e l = rw (find-hit p m h e l)
-
-pub end-is : (p : ℕ → Bool) {i n r : ℕ} → find i p ≡ none → i ≡ n → r ≡ n → r ≡ orNone (find n p) n
-end-is p {i} {n} {r} h e q = q ∙ sym (ap (λ f. orNone f n) (ap (λ k. find k p) (sym e) ∙ h))
+pub find-end : (p : ℕ → Bool) {i n : ℕ} → find i p ≡ none → i ≡ n → find n p ≡ none
+find-end p h e = rw (← e) h
 
 -- what a search that ended says
 pub found-at : (f : Found) {n r : ℕ} → r ≡ orNone f n → r < n → f ≡ at r

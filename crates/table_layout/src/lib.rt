@@ -1,8 +1,6 @@
 // The session table in lent bytes: rows of four numbers, each of four bytes, low byte first. One row, or one field of it, is taken out
 // or written at a time. Above this crate nobody looks at an offset.
-use counts::COMMANDS;
 use counts::CommandNumber;
-use counts::SESSIONS;
 use counts::SessionNumber;
 use counts::Ticket;
 use record::Outcome;
@@ -23,13 +21,22 @@ pub struct Table {
 }
 
 impl Table {
-    // The numbers in a row, and the rows of a session: its head, and one for each command's answer.
-    pub const ROW: usize = 4;
+    // The limits of a table: of MaxSessions, of its programs, of a session's commands, of its tickets.
+    pub const SESSIONS: u32 = counts::SESSIONS;
 
-    pub const SESSION_ROWS: usize = 1 + COMMANDS as usize;
+    pub const PROGRAMS: u32 = counts::PROGRAMS;
+
+    pub const COMMANDS: u32 = counts::COMMANDS;
+
+    pub const TICKET_MOST: u32 = counts::TICKET_MOST;
+
+    // The numbers in a row, and the rows of a session: its head, and one for each command's answer.
+    const ROW: usize = 4;
+
+    const SESSION_ROWS: usize = 1 + Table::COMMANDS as usize;
 
     // The bytes of a table, for every MaxSessions.
-    pub const SIZE: usize = 16 * (1 + Table::SESSION_ROWS * SESSIONS as usize);
+    pub const SIZE: usize = 16 * (1 + Table::SESSION_ROWS * Table::SESSIONS as usize);
 
     // "A fresh table has no session, last ticket 0, nothing in hand, and 0 comes first in the turn."
     pub fn fresh(max: u32) -> Self
@@ -41,6 +48,17 @@ impl Table {
             last: Ticket(0),
             mark: SessionNumber(max - 1),
             hand: 0,
+        }
+    }
+
+    // All bytes 0: no session, whatever stood there.
+    pub fn clear(b: &mut [u8])
+        ensures { λ _. ⌜ now (b .exit) ≡ replicate (length (now (b .entry))) 0 ⌝ }
+    {
+        let mut i = 0;
+        while i < b.len() {
+            b[i] = 0;
+            i += 1;
         }
     }
 }
@@ -216,15 +234,4 @@ pub fn put_entry(b: &mut [u8], s: SessionNumber, c: CommandNumber, a: Answer)
     put_number(b, at + 1, code_of(o));
     put_number(b, at + 2, a.date);
     put_number(b, at + 3, a.time);
-}
-
-// All bytes 0: no session, whatever stood there.
-pub fn clear(b: &mut [u8])
-    ensures { λ _. ⌜ now (b .exit) ≡ replicate (length (now (b .entry))) 0 ⌝ }
-{
-    let mut i = 0;
-    while i < b.len() {
-        b[i] = 0;
-        i += 1;
-    }
 }

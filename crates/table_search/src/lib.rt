@@ -1,5 +1,4 @@
-// The searches of the session table's calls: the lowest open number, the next session in turn, the session that may be collected. Each
-// gives MaxSessions where there is none.
+// The searches of the session table's calls: the lowest open number, the next session in turn, the session that may be collected.
 use counts::SessionNumber;
 use counts::Ticket;
 use table_layout::Table;
@@ -11,30 +10,47 @@ ghost use mathlib.Core.Path.{_≡_};
 ghost use Prim.Native.Nat.{_<_, _≤_};
 ghost use lib.ListN.{length};
 ghost use Rattle.counts.specs.Limits.{sessions};
-ghost use Rattle.sessions.specs.Find.{find, orNone};
-ghost use Rattle.sessions.specs.Table.{isOpen, isWaiting, isReady, turn};
-ghost use Rattle.table_layout.specs.Layout.{tableBytes, number, maxAt};
-ghost use Rattle.table_sound.specs.Bytes.{slotOf, abs};
+ghost use Rattle.sessions.specs.Table.{isReady};
+ghost use Rattle.table_layout.specs.Layout.{tableBytes};
+ghost use Rattle.table_sound.specs.Bytes.{slotOf};
 ghost use Rattle.table_search.specs.Limited.{Limited, turnOf};
+ghost use Rattle.table_search.specs.Search.{paperFound, isFound, openIn, waitingIn, readyFound};
+
+// What a search comes to.
+pub enum Found {
+    At(SessionNumber),
+    Nothing,
+}
 
 // "takes the lowest open number"
-pub fn lowest_open(b: &[u8]) -> u32
+pub fn lowest_open(b: &[u8]) -> Found
     requires { ⌜ Limited (now b) ⌝ }
-    ensures { λ r. ⌜ r ≡ orNone (find (number (now (b .entry)) maxAt) (λ s. isOpen (slotOf (now (b .entry)) s))) (number (now (b .entry)) maxAt) ⌝ }
+    ensures { λ r. ⌜ paperFound r ≡ openIn (now (b .entry)) ⌝ }
 {
     let max = get_table(b).max;
     let mut s: u32 = 0;
     while s < max {
         if is_open(b, SessionNumber(s)) {
-            return s;
+            return Found::At(SessionNumber(s));
         }
         s += 1;
     }
-    max
+    Found::Nothing
+}
+
+// Whether a number is open.
+pub fn has_open(b: &[u8]) -> bool
+    requires { ⌜ Limited (now b) ⌝ }
+    ensures { λ r. ⌜ r ≡ isFound (openIn (now (b .entry))) ⌝ }
+{
+    let Found::At(_) = lowest_open(b) else {
+        return false;
+    };
+    true
 }
 
 // The number that comes i places after the one that follows the mark, going round.
-pub fn in_turn(t: Table, i: u32) -> SessionNumber
+fn in_turn(t: Table, i: u32) -> SessionNumber
     requires { ⌜ (t .mark .0 < t .max) × (t .max ≤ sessions) × (i < t .max) ⌝ }
     ensures { λ r. ⌜ (r .0 ≡ turnOf t i) × (r .0 < t .max) ⌝ }
 {
@@ -46,20 +62,21 @@ pub fn in_turn(t: Table, i: u32) -> SessionNumber
 }
 
 // "beginning after the number last taken up and going round, the first session with an unanswered command"
-pub fn next_waiting(b: &[u8]) -> u32
+pub fn next_waiting(b: &[u8]) -> Found
     requires { ⌜ Limited (now b) ⌝ }
-    ensures { λ r. ⌜ r ≡ orNone (find (number (now (b .entry)) maxAt) (λ i. isWaiting (slotOf (now (b .entry)) (turn (abs (now (b .entry))) i)))) (number (now (b .entry)) maxAt) ⌝ }
+    ensures { λ r. ⌜ paperFound r ≡ waitingIn (now (b .entry)) ⌝ }
 {
     let t = get_table(b);
     let max = t.max;
     let mut i: u32 = 0;
     while i < max {
-        if is_waiting(b, in_turn(t, i)) {
-            return i;
+        let s = in_turn(t, i);
+        if is_waiting(b, s) {
+            return Found::At(s);
         }
         i += 1;
     }
-    max
+    Found::Nothing
 }
 
 // Whether the session is a closed one of that program and ticket.
@@ -72,17 +89,17 @@ fn is_ready(b: &[u8], s: SessionNumber, program: u32, ticket: Ticket) -> bool
 }
 
 // "a closed session of that program and ticket"
-pub fn ready_session(b: &[u8], program: u32, ticket: Ticket) -> u32
+pub fn ready_session(b: &[u8], program: u32, ticket: Ticket) -> Found
     requires { ⌜ Limited (now b) × (1 ≤ program) ⌝ }
-    ensures { λ r. ⌜ r ≡ orNone (find (number (now (b .entry)) maxAt) (λ s. isReady program (ticket .0) (slotOf (now (b .entry)) s))) (number (now (b .entry)) maxAt) ⌝ }
+    ensures { λ r. ⌜ paperFound r ≡ readyFound (now (b .entry)) program (ticket .0) ⌝ }
 {
     let max = get_table(b).max;
     let mut s: u32 = 0;
     while s < max {
         if is_ready(b, SessionNumber(s), program, ticket) {
-            return s;
+            return Found::At(SessionNumber(s));
         }
         s += 1;
     }
-    max
+    Found::Nothing
 }

@@ -1,10 +1,6 @@
 // Whether lent bytes are a sound session table, for any bytes of any length.
-use counts::COMMANDS;
 use counts::CommandNumber;
-use counts::PROGRAMS;
-use counts::SESSIONS;
 use counts::SessionNumber;
-use counts::TICKET_MOST;
 use counts::Ticket;
 use sessions::Answer;
 use table_layout::Table;
@@ -50,9 +46,9 @@ fn head_is_sound(b: &[u8], s: SessionNumber) -> bool
     let h = get_head(b, s);
     (s.0 < t.max)
         & ((1 <= h.program)
-            & (h.program <= PROGRAMS)
-            & ((1 <= h.count) & (h.count <= COMMANDS))
-            & ((1 <= h.ticket.0) & (h.ticket.0 <= TICKET_MOST)))
+            & (h.program <= Table::PROGRAMS)
+            & ((1 <= h.count) & (h.count <= Table::COMMANDS))
+            & ((1 <= h.ticket.0) & (h.ticket.0 <= Table::TICKET_MOST)))
         & (h.ticket.0 <= t.last.0)
         & (h.answered <= h.count)
 }
@@ -138,7 +134,7 @@ fn slots_are_sound(b: &[u8]) -> bool
     ensures { λ r. ⌜ r ≡ all sessions (λ s. slotSound (abs (now (b .entry))) s (slotOf (now (b .entry)) s)) ⌝ }
 {
     let mut s: u32 = 0;
-    while s < SESSIONS {
+    while s < Table::SESSIONS {
         if slot_is_sound(b, SessionNumber(s)) {
             s += 1;
         } else {
@@ -154,7 +150,7 @@ fn limits_are_sound(b: &[u8]) -> bool
     ensures { λ r. ⌜ r ≡ (maxInRange (abs (now (b .entry))) && markBelow (abs (now (b .entry)))) ⌝ }
 {
     let t = get_table(b);
-    (1 <= t.max) & (t.max <= SESSIONS) & (t.mark.0 < t.max)
+    (1 <= t.max) & (t.max <= Table::SESSIONS) & (t.mark.0 < t.max)
 }
 
 // Whether the command in hand is the lowest unanswered of its session.
@@ -167,7 +163,7 @@ fn hand_is_sound(b: &[u8]) -> bool
         return true;
     }
     let s = hand - 1;
-    if s < SESSIONS {
+    if s < Table::SESSIONS {
         is_waiting(b, SessionNumber(s))
     } else {
         false

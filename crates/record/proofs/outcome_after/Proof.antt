@@ -6,6 +6,9 @@ use borrow.Author.Needs.{needs}
 use Rattle.record.proofs.outcome_after.Statement.{statement}
 use Rattle.record.proofs.outcome_after.Tie as tie
 
+cast-plain-width : tie.Need-cast-plain-width
+cast-plain-width c = search needs
+
 plain-width-requires : tie.Need-plain-width-requires
 plain-width-requires c κs = search needs
 
@@ -20,4 +23,4 @@ returns c = search reads depth 9
 
 pub outcome-after-spec : {M : Type 1} → statement M
 outcome-after-spec =
-    tie.close (tie.spec plain-width-requires add-outcome-at outcome-at-requires returns)
+    tie.close (tie.spec cast-plain-width plain-width-requires add-outcome-at outcome-at-requires returns)

@@ -8,8 +8,8 @@ use Rattle.record.proofs.read_record.Tie as tie
 number-at-requires : tie.Need-number-at-requires
 number-at-requires c κs = search needs
 
-enum-known-n : tie.Need-enum-known-n
-enum-known-n c = search needs
+enum-known-number : tie.Need-enum-known-number
+enum-known-number c = search needs
 
 enum-told : tie.Need-enum-told
 enum-told c = search needs
@@ -50,7 +50,7 @@ read-record-spec =
     tie.close
     (tie.spec
     number-at-requires
-    enum-known-n
+    enum-known-number
     enum-told
     no-record-requires
     returns

@@ -18,8 +18,8 @@ returns : tie.Need-returns
 unfolding numberRead
 returns c = rw (c .before .enum-told .given .1) (search names depth 9)
 
-cast-kind-read : tie.Need-cast-kind-read
-cast-kind-read c = search needs
+cast-t8 : tie.Need-cast-t8
+cast-t8 c = search needs
 
 kind-read-requires : tie.Need-kind-read-requires
 kind-read-requires c κs = search needs
@@ -43,7 +43,7 @@ number-read-spec =
     enum-told
     no-name-requires
     returns
-    cast-kind-read
+    cast-t8
     kind-read-requires
     no-name-requires-2
     returns-2

@@ -13,6 +13,9 @@ slice-aggregate-put-bytes c = search needs
 put-bytes-requires : tie.Need-put-bytes-requires
 put-bytes-requires c κs = search needs
 
+cast-put-digits : tie.Need-cast-put-digits
+cast-put-digits c = search needs
+
 put-digits-requires : tie.Need-put-digits-requires
 put-digits-requires c κs = search needs
 
@@ -20,7 +23,7 @@ put-ending-requires : tie.Need-put-ending-requires
 put-ending-requires c κs =
     let digits = c .before .before .before .put-digits .ensures in
     let letters = c .before .before .before .before .before .before .before .put-bytes .ensures in
-    let n = c .before .before .before .before .before .before .before .before .before .before .before .args .n in
+    let n = c .before .before .before .before .before .before .before .before .before .before .before .args .number .0 in
     omega (arith, digits .next, letters .next, length-digits 4 n, wrote-length digits, wrote-length letters)
 
 same-length : tie.Need-same-length
@@ -38,6 +41,7 @@ put-name-spec =
     (tie.spec
     slice-aggregate-put-bytes
     put-bytes-requires
+    cast-put-digits
     put-digits-requires
     put-ending-requires
     same-length

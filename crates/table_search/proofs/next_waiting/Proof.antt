@@ -1,12 +1,13 @@
-use Rattle.table_search.proofs.Tests.{waiting-in-turn}
+use Rattle.table_search.proofs.Tests.{waiting-in-turn, turned-at}
 use Prim.Native.Nat.{_-_, _≤_}
-use mathlib.Core.Path.{_≡_, ap}
+use mathlib.Core.Path.{_≡_, ap, sym}
 use native.Mathlib.Omega.{arith}
 use borrow.Author.Needs.{needs}
 use Rattle.sessions.specs.Find.{none, find}
 use Rattle.sessions.specs.Table.{isWaiting, turn}
-use Rattle.sessions.proofs.Loops.{find-none, find-more, hit-is, end-is}
+use Rattle.sessions.proofs.Loops.{find-none, find-more, find-hit, find-end}
 use Rattle.table_layout.specs.Layout.{number, tableOf}
+use Rattle.table_search.specs.Search.{turned}
 use Rattle.table_sound.specs.Bytes.{slotOf, abs}
 use Rattle.table_search.proofs.next_waiting.Statement.{statement}
 use Rattle.table_search.proofs.next_waiting.Tie as tie
@@ -32,7 +33,7 @@ is-waiting-requires : tie.Need-is-waiting-requires Inv-loop μ-loop
 is-waiting-requires c κs = (search needs, omega (arith, c .in-turn .ensures .1, c .before .before .before .before .before .pre .limit))
 
 returns : tie.Need-returns Inv-loop μ-loop
-returns c = hit-is _ _ _ (c .before .before .before .before .loop .inv .3) (waiting-in-turn _ _ (c .before .before .before .before .loop .inv .1) _ _ (c .before .before .in-turn .ensures .0) _ _ (c .before .is-waiting .ensures) (c .if1 .taken)) (omega arith)
+returns c = turned-at _ _ (c .before .before .before .before .loop .inv .1) _ _ (c .before .before .in-turn .ensures .0) (find-hit _ _ (c .before .before .before .before .loop .inv .3) (waiting-in-turn _ _ (c .before .before .before .before .loop .inv .1) _ _ (c .before .before .in-turn .ensures .0) _ _ (c .before .is-waiting .ensures) (c .if1 .taken)) (omega arith))
 
 add-i : tie.Need-add-i Inv-loop μ-loop
 add-i c = omega arith
@@ -44,7 +45,7 @@ loop-again : tie.Need-loop-again Inv-loop μ-loop
 loop-again c = (omega arith, c .before .before .before .before .loop .inv .1, c .before .before .before .before .loop .inv .2, find-more _ (c .before .before .before .before .loop .inv .3) (waiting-in-turn _ _ (c .before .before .before .before .loop .inv .1) _ _ (c .before .before .in-turn .ensures .0) _ _ (c .before .is-waiting .ensures) (c .if1 .left)))
 
 returns-2 : tie.Need-returns-2 Inv-loop μ-loop
-returns-2 c = end-is _ (c .before .loop .inv .3) (omega arith) (omega arith)
+returns-2 c = sym (ap (turned (abs _)) (find-end _ (c .before .loop .inv .3) (omega arith)))
 
 pub next-waiting-spec : {M : Type 1} → statement M
 next-waiting-spec =

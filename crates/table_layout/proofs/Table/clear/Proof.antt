@@ -4,8 +4,8 @@ use native.Mathlib.Omega.{arith}
 use borrow.Author.Needs.{needs}
 use lib.ListN.{length, take, replicate, length-set}
 use Rattle.table_layout.proofs.Zeros.{clear-more, clear-end}
-use Rattle.table_layout.proofs.clear.Statement.{statement}
-use Rattle.table_layout.proofs.clear.Tie as tie
+use Rattle.table_layout.proofs.Table.clear.Statement.{statement}
+use Rattle.table_layout.proofs.Table.clear.Tie as tie
 
 abbrev Inv-loop : tie.InvT-loop
 Inv-loop b₀ i₀ b i = (i ≤ length b₀) × (length b ≡ length b₀) × (take i b ≡ replicate i 0)
