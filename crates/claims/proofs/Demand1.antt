@@ -1,4 +1,4 @@
--- How demand 1 is said of a call, and a law of the writers. Assumes nothing.
+-- A law of the writers. Assumes nothing.
 use Prim.Native.Nat.{ℕ}
 use mathlib.Core.Path.{_≡_, refl, sym}
 use mathlib.Core.Bool.{Bool, true, false, cond}
@@ -6,10 +6,6 @@ use mathlib.Core.List.{List}
 use lib.Dec.{eqb}
 use Rattle.counts.specs.Result.{Result, refused, done}
 use Rattle.counts.proofs.Results.{refused-not-done}
-
--- `Row v` has a case for each row of document 01 that gives the answer v: the answer x is a row's, and no row gives another.
-abbrev pub Exactly : {A : Type 0} → Result A → (Result A → Type 0) → Type 0
-Exactly {A} x Row = Row x × ((v : Result A) → Row v → x ≡ v)
 
 -- a writer that finds the refusal k, 0 for none, and then writes: where it is refused the lent output stays
 pub refused-stays : (k n : ℕ) (bytes out : List ℕ) (number place : ℕ) → cond {A = Result ℕ} (eqb k 0) (done n) (refused k 0) ≡ refused number place

@@ -1,7 +1,7 @@
 -- Demand 1 for the calls on records. Two results that meet a call's contract are equal, answer and lent output; the writer's answers are given exactly
 -- under their rows' conditions, in document 01's order; a refused call leaves the lent output as it was. That the reader refuses exactly the bytes that
 -- are no permitted record's, and always with 7, is `read-exactly` and `only-seven` of `crates/record/proofs/RoundTrip`. Assumes nothing.
-use Prim.Native.Nat.{ℕ, _≤_, _<_}
+use Prim.Native.Nat.{ℕ}
 use mathlib.Core.Path.{_≡_, refl, sym, _∙_}
 use mathlib.Core.Bool.{Bool, true, false, cond}
 use mathlib.Core.List.{List}
@@ -10,27 +10,15 @@ use lib.ListN.{length}
 use borrow.Author.Tests.{le-leb, lt-leb, leb-true, leb-false}
 use Rattle.counts.specs.Refusals.{notReal, notARecord, tooLittleRoom}
 use Rattle.counts.specs.Result.{Result, refused, done}
-use Rattle.record.specs.Record.{Content, inRange, isReal, recordBytes}
+use Rattle.record.specs.Record.{Content, isReal, recordBytes}
 use Rattle.record.specs.Reading.{recordRead, readSays}
 use Rattle.record.specs.Writing.{writeRefusal, written, writtenBytes, writeSays}
 use Rattle.record.specs.declared.RecordRead.{RecordRead}
 use Rattle.record.specs.declared.Written.{Written}
 use Rattle.record.proofs.Says.{read-says-all, write-says-all}
-use Rattle.claims.proofs.Demand1.{Exactly, refused-stays}
-
--- ---- the rows: "The writer tests number, class, code and text (7), then date and time (5), then room (8)."
-
-abbrev pub fieldsInRange : ℕ → Content → Bool
-fieldsInRange limit c = inRange limit (c .number) (c .outcome) (c .text)
-
-pub data WriteRow (limit : ℕ) (c : Content) (room : ℕ) : Result ℕ → Type 0 where
-  seven : fieldsInRange limit c ≡ false → WriteRow limit c room (refused notARecord 0)
-  five : fieldsInRange limit c ≡ true → isReal (c .date) (c .time) ≡ false → WriteRow limit c room (refused notReal 0)
-  eight : fieldsInRange limit c ≡ true → isReal (c .date) (c .time) ≡ true → room < length (recordBytes c) → WriteRow limit c room (refused tooLittleRoom 0)
-  record-written : fieldsInRange limit c ≡ true → isReal (c .date) (c .time) ≡ true → length (recordBytes c) ≤ room
-      → WriteRow limit c room (done (length (recordBytes c)))
-
--- ---- the proofs
+use Rattle.claims.specs.Exactly.{Exactly}
+use Rattle.claims.specs.RecordRows.{fieldsInRange, WriteRow, seven, five, eight, record-written}
+use Rattle.claims.proofs.Demand1.{refused-stays}
 
 write-rows : (limit : ℕ) (c : Content) (out : List ℕ) → WriteRow limit c (length out) (written limit c out)
 unfolding written writeRefusal

@@ -1,1 +1,5 @@
 pub mod Examples
+pub mod Exactly
+pub mod NameRows
+pub mod RecordRows
+pub mod TableRows
