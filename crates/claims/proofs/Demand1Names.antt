@@ -16,23 +16,20 @@ use Rattle.counts.proofs.Results.{refused-not-done}
 use Rattle.field.specs.Bytes.{ascii, hasAt}
 use Rattle.decimal.specs.declared.DigitsRead.{DigitsRead}
 use Rattle.decimal.specs.declared.DigitsRead.the-variants.{Value, NotDigits}
-use Rattle.session_name.specs.Name.{noName, kindRead, numberRead, isFramed, nameRead, writeRefusal, written, writtenBytes, ReadsName, WritesName}
+use Rattle.session_name.specs.Name.{noName, kindRead, numberRead, isFramed, nameRead, writeRefusal, written, writtenBytes, readSays, writeSays}
 use Rattle.session_name.specs.declared.Kind.{Kind}
 use Rattle.session_name.specs.declared.Kind.the-variants.{Request, Response}
-use Rattle.session_name.specs.declared.NameRead.{NameRead}
-use Rattle.session_name.specs.declared.NameWritten.{NameWritten}
 use Rattle.session_name.proofs.Says.{read-says-all, write-says-all}
 use Rattle.session_name.proofs.RoundTrip.{name-reads, name-back}
-use Rattle.claims.specs.Exactly.{Exactly}
+use Rattle.claims.specs.Exactly.{Exactly, OneResult}
 use Rattle.claims.specs.NameRows.{inRange, WriteNameRow, not-in-range, no-room, name-written, ReadNameRow, name-read, no-name}
-use Rattle.claims.proofs.Demand1.{refused-stays}
+use Rattle.claims.proofs.Demand1.{refused-stays, one-result}
 
-pub read-name-determined : (max : ℕ) (name : List ℕ) (a b : NameRead) → ReadsName max name a → ReadsName max name b → a ≡ b
-read-name-determined max name a b p q = read-says-all a b (p ∙ sym q)
+pub read-name-determined : OneResult (Unit {0}) readSays
+read-name-determined = one-result read-says-all
 
-pub write-name-determined : (max n : ℕ) (kind : Kind) (entry exit exit′ : List ℕ) (a b : NameWritten)
-    → WritesName max n kind entry exit a → WritesName max n kind entry exit′ b → (a ≡ b) × (exit ≡ exit′)
-write-name-determined max n kind entry exit exit′ a b p q = (write-says-all a b (p .0 ∙ sym (q .0)), p .1 ∙ sym (q .1))
+pub write-name-determined : OneResult (List ℕ) writeSays
+write-name-determined = one-result write-says-all
 
 write-rows : (max n : ℕ) (out : List ℕ) → WriteNameRow max n (length out) (written max n out)
 unfolding written writeRefusal

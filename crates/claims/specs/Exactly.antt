@@ -1,7 +1,6 @@
 -- How demand 1 is said of one call. Assumes nothing.
 use Prim.Native.Nat.{ℕ}
 use mathlib.Core.Path.{_≡_}
-use mathlib.Core.List.{List}
 use Rattle.counts.specs.Result.{Result, refused}
 
 -- `Row v` has a case for each row of document 01 that gives the answer v: the answer x is a row's, and no row gives another.
@@ -14,10 +13,10 @@ pub record Obeys {A M : Type 0} (Row : Result A → Type 0) (lent : M) (result :
   pub answers : Exactly (result .0) Row
   pub refusal-leaves : (number place : ℕ) → result .0 ≡ refused number place → result .1 ≡ lent
 
--- A contract says the paper's value of the answer, and the memory at exit: "show that no two different results satisfy it".
-abbrev pub Meets : {A B : Type 0} → (A → B) → B → List ℕ → A → List ℕ → Type 0
+-- A contract says the paper's value of the answer and the memory at exit: "show that no two different results satisfy it". M is the memory lent.
+abbrev pub Meets : {A B M : Type 0} → (A → B) → B → M → A → M → Type 0
 Meets says v memory r exit = (says r ≡ v) × (exit ≡ memory)
 
-abbrev pub OneResult : {A B : Type 0} → (A → B) → Type 0
-OneResult {A} {B} says =
-    (v : B) (memory : List ℕ) (a b : A) (exit exit′ : List ℕ) → Meets says v memory a exit → Meets says v memory b exit′ → (a ≡ b) × (exit ≡ exit′)
+abbrev pub OneResult : (M : Type 0) {A B : Type 0} → (A → B) → Type 0
+OneResult M {A} {B} says =
+    (v : B) (memory : M) (a b : A) (exit exit′ : M) → Meets says v memory a exit → Meets says v memory b exit′ → (a ≡ b) × (exit ≡ exit′)
