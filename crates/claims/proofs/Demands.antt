@@ -4,23 +4,28 @@ use mathlib.Core.Path.{_≡_, refl, sym, ap, _∙_}
 use mathlib.Core.List.{List, [], _∷_, _++_}
 use native.Mathlib.Omega.{arith}
 use lib.ListN.{length}
-use Rattle.counts.specs.Limits.{commands}
-use Rattle.counts.specs.Result.{Result}
+use Rattle.counts.specs.Limits.{commands, sessions}
+use Rattle.counts.proofs.Results.{passed}
+use Rattle.counts.specs.Result.{Result, done}
 use Rattle.session_name.proofs.RoundTrip as names
 use Rattle.record.proofs.RoundTrip as records
 use Rattle.grammar.specs.Reading.{Answer as Reading}
 use Rattle.item.proofs.Spelled.{in-file-exactly}
-use Rattle.job.specs.Job.{filled}
+use Rattle.job.specs.Job.{readJob, filled}
 use Rattle.job_claims.proofs.Claims.{judged, only, taken-exactly, one-exactly, two-exactly, three-exactly, four-exactly, five-exactly, six-exactly, statement-of-file, end-is-last}
 use Rattle.job_claims.proofs.Determined.{one-job-answer, one-statement-answer}
 use Rattle.job_claims.proofs.Statements.{statement-read-exactly, statement-one-exactly, statement-eleven-exactly, statement-three-exactly, statement-five-exactly, statement-four-exactly}
 use Rattle.sessions.specs.History.{Call, toPlace, Event, placed, tookUp, answered, collected}
-use Rattle.session_table.specs.Calls.{freshBytes, collectedOut}
+use Rattle.session_table.specs.Calls.{freshBytes, making, madeBytes, collectedOut}
 use Rattle.session_table.proofs.Untouched.{answering-changes-nothing-else}
 use Rattle.session_histories.specs.Runs as runs
 use Rattle.session_histories.specs.Runs.{stepBytes}
 use Rattle.session_histories.proofs.Claims as histories
 use Rattle.session_histories.proofs.Does.{does}
+use Rattle.session_histories.proofs.Fresh.{fresh-bytes}
+use Rattle.sessions.proofs.Laws.{in-range}
+use Rattle.sessions.specs.Table.{within, fresh}
+use Rattle.table_sound.specs.Bytes.{abs}
 use Rattle.claims.specs.Histories.{bytesAfter, historyOf, Refuses}
 use Rattle.claims.specs.Demands.{Demand1, Demand2, Demand3}
 use Rattle.claims.proofs.Demand1.{one-result}
@@ -30,6 +35,13 @@ use Rattle.claims.proofs.Demand1Table.{make-exactly, place-exactly, tak
 use Rattle.claims.proofs.Demand1TableResults.{make-refused-keeps, place-refused-keeps, take-up-refused-keeps, answer-refused-keeps, collect-refused-keeps, make-determined, place-determined, take-up-determined, answer-determined, collect-determined}
 
 -- ---- demand 1
+
+made-fresh : (b : List ℕ) (max : ℕ) → making b max ≡ done tt → abs (madeBytes b max) ≡ fresh max
+unfolding making madeBytes
+made-fresh b max e =
+    let (range, rest) = passed (within 1 max sessions) _ _ _ e in
+    let r = in-range 1 max sessions range in
+    rw e (fresh-bytes max (r .0) (r .1))
 
 pub demand-1 : Demand1
 unfolding collectedOut
@@ -61,6 +73,7 @@ demand-1 =
       one-taken-up = take-up-determined;
       one-answered = answer-determined;
       one-collected = collect-determined;
+      makes-fresh = made-fresh;
       leaves = λ b c e. let d = does b c e in (d .leaves, d .keeps);
       collect-writes = λ b p t out reply e. rw e;
       answer-changes = answering-changes-nothing-else;
@@ -71,6 +84,7 @@ demand-1 =
 pub demand-2 : Demand2
 demand-2 =
     record {
+      verdict = λ file offsets. (readJob file (length offsets), judged file (length offsets), refl, refl);
       taken = taken-exactly;
       tiled = statement-of-file;
       one = one-exactly;

@@ -31,9 +31,9 @@ use Rattle.session_histories.specs.Runs as runs
 use Rattle.session_histories.specs.Runs.{stepBytes}
 use Rattle.session_histories.proofs.Same.{same-history, place-same, collect-same}
 use Rattle.table_sound.specs.Bytes.{abs}
-use Rattle.claims.specs.Histories.{bytesAfter, historyOf, Stands}
-use Rattle.claims.specs.Demands.{Demand3}
-use Rattle.claims.specs.StandIns.{Step, processed, failed, SaysAccepted, DoesNothing, PlacesByRows, Invented, Invents, HandsOver, HoldsBack, PlaceCall, TakeUpCall, CollectCall, PlaceRefuses, TakeUpRefuses, CollectRefuses, IsRefused, Reader, Reads, ReaderRefuses, OneReading, MakesUpCount, Refuted}
+use Rattle.claims.specs.Histories.{Step, bytesAfter, historyOf, Request}
+use Rattle.claims.specs.Demands.{Reader, Reads, Demand3}
+use Rattle.claims.specs.StandIns.{processed, failed, SaysAccepted, DoesNothing, PlacesByRows, Invented, Invents, HandsOver, HoldsBack, PlaceCall, TakeUpCall, CollectCall, PlaceRefuses, TakeUpRefuses, CollectRefuses, IsRefused, ReaderRefuses, OneReading, MakesUpCount, Refuted}
 use Rattle.claims.specs.TableRows.{PlaceRow, TakeUpRow, CollectRow}
 use Rattle.claims.proofs.Demand1Table.{place-exactly, take-up-exactly, collect-exactly}
 
@@ -139,7 +139,7 @@ one-of (z ∷ l) m {x} e = absurd (omega (arith, ap length e, length-append l (x
 module _ (fresh : ℕ → List ℕ) (step : Step) (meets : Demand3 fresh step) where
   -- who owns a request that is answered whole is handed its records
   whole-is-there : (max : ℕ) → 1 ≤ max → max ≤ sessions → (cs : List Call) (p t room : ℕ) (answers : List Answer)
-      → Stands (historyOf fresh step max cs) p (length answers) t answers → length (records (numbered 1 answers)) ≤ room
+      → Request (historyOf fresh step max cs) p (length answers) t answers → length (records (numbered 1 answers)) ≤ room
       → step (bytesAfter fresh step max cs) (toCollect p t room) .0 ≡ collected p t room (done (records (numbered 1 answers)))
   whole-is-there max low high cs p t room answers w enough =
       let l : length (accepted t (w .later)) ≡ length answers = ap length (w .so-far) ∙ length-numbered 1 answers in

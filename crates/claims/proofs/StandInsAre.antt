@@ -23,8 +23,9 @@ use Rattle.session_table.specs.Calls.{freshBytes, placing, placedBytes}
 use Rattle.session_histories.specs.Runs as runs
 use Rattle.session_histories.specs.Runs.{stepBytes}
 use Rattle.session_histories.proofs.Same.{same-history}
-use Rattle.claims.specs.Histories.{bytesAfter, historyOf, Stands}
-use Rattle.claims.specs.StandIns.{Step, processed, failed, SaysAccepted, DoesNothing, PlacesByRows, Invented, Invents, HandsOver, HoldsBack, Reader, MakesUpCount, Exhibited}
+use Rattle.claims.specs.Histories.{Step, bytesAfter, historyOf, Request}
+use Rattle.claims.specs.Demands.{Reader}
+use Rattle.claims.specs.StandIns.{processed, failed, SaysAccepted, DoesNothing, PlacesByRows, Invented, Invents, HandsOver, HoldsBack, MakesUpCount, Exhibited}
 use Rattle.claims.proofs.Demand1Table.{place-exactly}
 use Rattle.claims.proofs.StandIns.{answering-one, hands-over-first, short, handed}
 
@@ -46,7 +47,7 @@ idles b (toCollect p t room) = refl
 idle-calls : Answer → List Call
 idle-calls a = toAnswer 1 1 a ∷ toTakeUp ∷ toPlace 1 1 ∷ []
 
-idle-stands : (a : Answer) → Stands (historyOf (λ max. []) idle 1 (idle-calls a)) 1 1 1 (a ∷ [])
+idle-stands : (a : Answer) → Request (historyOf (λ max. []) idle 1 (idle-calls a)) 1 1 1 (a ∷ [])
 unfolding historyOf bytesAfter idle idle-calls accepted numbered gather collection
 idle-stands a =
     record {
@@ -101,29 +102,39 @@ serves-failed : runs.historyOf 2 (second failed) ≡ second-events failed
 unfolding first-events second-events second history stepWithout table freshState isOpen isWaiting find put names placeIn place takeNext takeHand takeUp answerHand answer isReal februaryLength monthLength realDate realTime
 serves-failed = same-history 2 (omega arith) (omega arith) (second failed)
 
-module _ (f : List ℕ → ℕ → ℕ → ℕ → Event × List ℕ) where
-  second-stands : (a : Answer) → runs.historyOf 2 (second a) ≡ second-events a → Stands (historyOf freshBytes (butCollects f) 2 (second a)) 2 1 2 (a ∷ [])
-  unfolding historyOf bytesAfter runs.historyOf runs.bytesAfter butCollects second second-events first-events accepted numbered gather collection
-  second-stands a e =
-      record {
-        number = 1;
-        later = answered 2 1 a (done tt) ∷ tookUp (done (1, 2, 1)) ∷ [];
-        earlier = first-events;
-        was-placed = e;
-        so-far = refl;
-        not-collected = refl;
-      }
+is-second : (a : Answer) {h : List Event} → h ≡ second-events a → Request h 2 1 2 (a ∷ [])
+unfolding second-events accepted numbered gather collection
+is-second a e =
+    record {
+      number = 1;
+      later = answered 2 1 a (done tt) ∷ tookUp (done (1, 2, 1)) ∷ [];
+      earlier = first-events;
+      was-placed = e;
+      so-far = refl;
+      not-collected = refl;
+    }
 
-  accepts-second : SaysAccepted freshBytes (butCollects f) 2 2
-  accepts-second =
-      record {
-        max = 2;
-        low = omega arith;
-        high = omega arith;
-        calls = second;
-        so = second-stands processed serves-processed;
-        or-so = second-stands failed serves-failed;
-      }
+-- in these calls nothing is collected
+second-stands : (f : List ℕ → ℕ → ℕ → ℕ → Event × List ℕ) (a : Answer) → runs.historyOf 2 (second a) ≡ second-events a
+    → Request (historyOf freshBytes (butCollects f) 2 (second a)) 2 1 2 (a ∷ [])
+unfolding historyOf bytesAfter runs.historyOf runs.bytesAfter butCollects second
+second-stands f a e = is-second a e
+
+table-stands : (a : Answer) → runs.historyOf 2 (second a) ≡ second-events a → Request (historyOf freshBytes stepBytes 2 (second a)) 2 1 2 (a ∷ [])
+unfolding historyOf bytesAfter runs.historyOf runs.bytesAfter second
+table-stands a e = is-second a e
+
+accepts : (step : Step) → ((a : Answer) → runs.historyOf 2 (second a) ≡ second-events a → Request (historyOf freshBytes step 2 (second a)) 2 1 2 (a ∷ []))
+    → SaysAccepted freshBytes step 2 2
+accepts step stands =
+    record {
+      max = 2;
+      low = omega arith;
+      high = omega arith;
+      calls = second;
+      so = stands processed serves-processed;
+      or-so = stands failed serves-failed;
+    }
 
 -- the first session is served, and later ones get an empty reply
 invents : List ℕ → ℕ → ℕ → ℕ → Event × List ℕ
@@ -251,8 +262,9 @@ exhibited =
       a-table-does-nothing = (λ max. [], idle, idles, idle-accepts);
       a-table-only-answers = (answers-only, λ b c. refl, only-answers);
       a-table-invented = (butCollects invents, one-invented);
-      a-table-invents = (butCollects invents, λ p t room. [], inventing, accepts-second invents);
+      a-table-invents = (butCollects invents, λ p t room. [], inventing, accepts (butCollects invents) (second-stands invents));
       a-reader-makes-up = (counts-one, λ n offsets. 1, makes-up);
       a-table-makes-up = (shortens, hands-over);
+      this-table-accepts = accepts stepBytes table-stands;
       a-table-holds-back = (butCollects holds, held-back);
     }

@@ -10,7 +10,7 @@ use lib.Dec.{leb}
 use lib.ListN.{length, getD}
 use Rattle.counts.specs.Limits.{fileBytes, commands}
 use Rattle.counts.specs.Refusals.{fileTooLong, tooFewPlaces, noToken, unexpected, notReal, tooManyStatements, tooLittleRoom, outOfRange, unsound}
-use Rattle.counts.specs.Result.{refused, done}
+use Rattle.counts.specs.Result.{Result, refused, done}
 use Rattle.field.specs.Part.{part, put}
 use Rattle.decimal.specs.Digits.{plainWidth}
 use Rattle.session_name.specs.Name as name
@@ -21,18 +21,18 @@ use Rattle.record.specs.Reading.{recordRead, contentOf, withText}
 use Rattle.record.specs.Writing as writing
 use Rattle.record.specs.declared.Record.{Record}
 use Rattle.grammar.specs.Productions.{Placed, Begins}
-use Rattle.grammar.specs.Reading.{Last}
+use Rattle.grammar.specs.Reading.{Last, Answer as Reading}
 use Rattle.grammar.specs.Rows.{Three, FourToken, FourEnd, Five, Six}
 use Rattle.item.specs.Tokens.{Tokens, line}
 use Rattle.item.proofs.Spelled.{InFile}
-use Rattle.job.specs.Job.{readJob, filled, jobSays}
+use Rattle.job.specs.Job.{readJob, counted, filled, jobSays}
 use Rattle.job.specs.Statement.{Tiled, readStatement, statementSays}
 use Rattle.job_claims.specs.Verdict.{Verdict, Taken, Crowded}
 use Rattle.job_claims.specs.Rows.{One, OneThree, OneFourToken, OneFourEnd, OneFive}
 use Rattle.job_claims.proofs.Statements.{ends}
 use Rattle.sessions.specs.History.{Call, toPlace, toCollect, Event, placed, collected, accepted, collections, step as stepOf}
 use Rattle.sessions.specs.Owed.{Yours}
-use Rattle.sessions.specs.Table.{records}
+use Rattle.sessions.specs.Table.{fresh, records}
 use Rattle.sessions.specs.declared.Answer.{Answer}
 use Rattle.table_layout.specs.Layout.{entryAt, answeredAt, handAt, number}
 use Rattle.table_sound.specs.Bytes.{abs, soundBytes}
@@ -46,7 +46,7 @@ use Rattle.claims.specs.Exactly.{Exactly, Obeys, OneResult}
 use Rattle.claims.specs.NameRows.{ReadNameRow, WriteNameRow}
 use Rattle.claims.specs.RecordRows.{ReadRow, WriteRow}
 use Rattle.claims.specs.TableRows.{MakeRow, PlaceRow, TakeUpRow, AnswerRow, CollectRow}
-use Rattle.claims.specs.Histories.{Always, Refuses}
+use Rattle.claims.specs.Histories.{Step, Always, Refuses}
 
 -- ---- Demand 1: "Every public call ends with a defined answer for all bytes and numbers. It tests its own arguments and the table it is lent. A refusal
 -- comes exactly where 01 says, gives its number and, for a file, its place, and leaves all lent memory as it found it."
@@ -80,6 +80,8 @@ pub record Demand1 : Type 0 where
   pub one-answered : OneResult (List ℕ) paperAnswered
   pub one-collected : (b : List ℕ) (p t : ℕ) (out : List ℕ) (r r′ : Collected) (exit exit′ out-exit out-exit′ : List ℕ)
       → Collects b p t out r exit out-exit → Collects b p t out r′ exit′ out-exit′ → (r ≡ r′) × (exit ≡ exit′) × (out-exit ≡ out-exit′)
+  -- "A fresh table has no session, last ticket 0, nothing in hand, and 0 comes first in the turn."
+  pub makes-fresh : (b : List ℕ) (max : ℕ) → making b max ≡ done tt → abs (madeBytes b max) ≡ fresh max
   -- a call on a sound table leaves what 01 says of the table without bytes, and a sound table
   pub leaves : (b : List ℕ) (c : Call) → soundBytes b ≡ true → (abs (stepBytes b c .1) ≡ stepOf (abs b) c .1) × (soundBytes (stepBytes b c .1) ≡ true)
   -- collect "Writes all records in order": from the start of the output on
@@ -89,11 +91,20 @@ pub record Demand1 : Type 0 where
       Beyond i (entryAt s (number b (answeredAt s) + 1)) 4 → Beyond i (answeredAt s) 1 → Beyond i handAt 1
       → getD (answeredBytes b t c a) i 0 ≡ getD b i 0
 
--- ---- Demand 2
+-- ---- Demand 2: "A job file is taken when, and only when, it obeys 01's grammar and limits and the offset table has room, and its reading is the one the
+-- grammar gives; a break is named by its leftmost place. Records written and read come back the same, both ways round."
+
+-- a reader of job files: file and lent offset table, to the count of statements and the table at exit
+abbrev pub Reader : Type 0
+Reader = (file offsets : List ℕ) → Result ℕ × List ℕ
+
+-- it gives 01's verdict on each file, and writes the offsets of the statements
+abbrev pub Reads : Reader → Type 0
+Reads f = (file offsets : List ℕ) → (x : Reading) × Verdict file (length offsets) x × (f file offsets .0 ≡ counted x) × (f file offsets .1 ≡ filled x offsets)
 
 pub record Demand2 : Type 0 where
-  -- "A job file is taken when, and only when, it obeys 01's grammar and limits and the offset table has room, and its reading is the one the grammar
-  -- gives": `Taken` has the offsets of the statements
+  pub verdict : Reads λ file offsets. let x = readJob file (length offsets) in (counted x, filled x offsets)
+  -- "taken when, and only when ..": `Taken` has the offsets of the statements that the grammar gives
   pub taken : (s : List ℕ) (room : ℕ) (os : List ℕ) → readJob s room ≡ done os ↔ Taken s room os
   -- "Each statement is read on its own from the place where it begins."
   pub tiled : (s : List ℕ) (room : ℕ) (os : List ℕ) → readJob s room ≡ done os → Tiled s 0 os
@@ -141,7 +152,7 @@ pub record Demand2 : Type 0 where
 -- ---- Demand 3, of a table in any bytes. `h ≡ later ++ (e ∷ earlier)` is a history in which e happened, with what came after and before.
 
 -- "From a fresh table, after any sequence of calls by up to eight programs and one machine:"
-pub record Demand3 (fresh : ℕ → List ℕ) (step : List ℕ → Call → Event × List ℕ) : Type 0 where
+pub record Demand3 (fresh : ℕ → List ℕ) (step : Step) : Type 0 where
   -- "each reply collected under a ticket holds one record per command of the request that got that ticket, in order, with exactly the outcome, date
   -- and time accepted for it"
   pub reply-is-yours : Always fresh step λ b h. (later earlier : List Event) (p t room : ℕ) (reply : List ℕ)

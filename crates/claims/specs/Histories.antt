@@ -11,7 +11,10 @@ use Rattle.sessions.specs.History.{Call, toPlace, toTakeUp, toAnswer, toCollect
 use Rattle.sessions.specs.Table.{within, numbered}
 use Rattle.sessions.specs.declared.Answer.{Answer}
 
-module _ (fresh : ℕ → List ℕ) (step : List ℕ → Call → Event × List ℕ) where
+abbrev pub Step : Type 0
+Step = List ℕ → Call → Event × List ℕ
+
+module _ (fresh : ℕ → List ℕ) (step : Step) where
   -- the bytes after the calls, from a fresh table on, and the calls with their answers
   unfoldable pub bytesAfter : ℕ → List Call → List ℕ
   bytesAfter max [] = fresh max
@@ -26,7 +29,7 @@ module _ (fresh : ℕ → List ℕ) (step : List ℕ → Call → Event × List 
   Always P = (max : ℕ) → 1 ≤ max → max ≤ sessions → (cs : List Call) → P (bytesAfter max cs) (historyOf max cs)
 
 -- Every call on the bytes b that names t is refused, and none gives t.
-pub record Refuses (step : List ℕ → Call → Event × List ℕ) (b : List ℕ) (t : ℕ) : Type 0 where
+pub record Refuses (step : Step) (b : List ℕ) (t : ℕ) : Type 0 where
   pub no-answer : (c : ℕ) (a : Answer) → step b (toAnswer t c a) .0 ≡ answered t c a (refused notTheOne 0)
   pub no-collect : (p room : ℕ) → within 1 p programs ≡ true → step b (toCollect p t room) .0 ≡ collected p t room (refused notTheOne 0)
   pub no-place : (p n s : ℕ) → step b (toPlace p n) .0 ≡ placed p n (done (s, t)) → ⊥
@@ -34,7 +37,7 @@ pub record Refuses (step : List ℕ → Call → Event × List ℕ) (b : List �
 
 -- In the history h a placing by program p gave ticket t for n commands; the answers accepted since are those to commands 1, 2, .. in order, and
 -- nothing was collected.
-pub record Stands (h : List Event) (p n t : ℕ) (answers : List Answer) : Type 0 where
+pub record Request (h : List Event) (p n t : ℕ) (answers : List Answer) : Type 0 where
   pub number : ℕ
   pub later : List Event
   pub earlier : List Event

@@ -6,18 +6,16 @@ use mathlib.Core.List.{List, [], _∷_, _++_}
 use lib.ListN.{length}
 use Rattle.counts.specs.Limits.{sessions}
 use Rattle.counts.specs.Result.{Result, refused, done}
-use Rattle.job.specs.Job.{counted, filled}
-use Rattle.job_claims.specs.Verdict.{Verdict}
-use Rattle.grammar.specs.Reading.{Answer as Reading}
 use Rattle.record.specs.declared.Outcome.the-variants.{Processed, Error}
 use Rattle.sessions.specs.History.{Call, toPlace, toCollect, Event, placed, collected, accepted}
 use Rattle.sessions.specs.Table.{numbered, records}
 use Rattle.sessions.specs.declared.Answer.{Answer}
 use Rattle.session_table.specs.Calls.{freshBytes}
+use Rattle.session_histories.specs.Runs.{stepBytes}
 use Rattle.table_sound.specs.Bytes.{abs}
 use Rattle.claims.specs.TableRows.{PlaceRow, TakeUpRow, CollectRow}
-use Rattle.claims.specs.Histories.{bytesAfter, historyOf, Stands}
-use Rattle.claims.specs.Demands.{Demand3}
+use Rattle.claims.specs.Histories.{Step, bytesAfter, historyOf, Request}
+use Rattle.claims.specs.Demands.{Reader, Reads, Demand3}
 
 -- refused, with whatever number and place
 abbrev pub IsRefused : {A : Type 0} → Result A → Type 0
@@ -48,9 +46,6 @@ CollectRefuses f = (b : List ℕ) (p t room : ℕ) → IsRefused (f b p t room .
 
 -- ---- tables: `fresh` makes one, and `step` answers a call and leaves bytes
 
-abbrev pub Step : Type 0
-Step = List ℕ → Call → Event × List ℕ
-
 -- two answers with different records
 abbrev pub processed : Answer
 processed = record { outcome = Processed; date = 20240430; time = 235959 }
@@ -64,8 +59,8 @@ pub record SaysAccepted (fresh : ℕ → List ℕ) (step : Step) (p t : ℕ) : T
   pub low : 1 ≤ max
   pub high : max ≤ sessions
   pub calls : Answer → List Call
-  pub so : Stands (historyOf fresh step max (calls processed)) p 1 t (processed ∷ [])
-  pub or-so : Stands (historyOf fresh step max (calls failed)) p 1 t (failed ∷ [])
+  pub so : Request (historyOf fresh step max (calls processed)) p 1 t (processed ∷ [])
+  pub or-so : Request (historyOf fresh step max (calls failed)) p 1 t (failed ∷ [])
 
 -- "A table that does nothing"
 abbrev pub DoesNothing : Step → Type 0
@@ -120,21 +115,14 @@ pub record HoldsBack (fresh : ℕ → List ℕ) (step : Step) (answers : List An
   pub calls : List Call
   pub program : ℕ
   pub ticket : ℕ
-  pub whole : Stands (historyOf fresh step max calls) program (length answers) ticket answers
+  pub whole : Request (historyOf fresh step max calls) program (length answers) ticket answers
   pub room : ℕ
   pub enough : length (records (numbered 1 answers)) ≤ room
   pub number : ℕ
   pub place : ℕ
   pub kept : step (bytesAfter fresh step max calls) (toCollect program ticket room) .0 ≡ collected program ticket room (refused number place)
 
--- ---- readers of job files: file, lent table of offsets
-
-abbrev pub Reader : Type 0
-Reader = (file offsets : List ℕ) → Result ℕ × List ℕ
-
--- demand 2: it gives document 01's verdict on each file, the count of statements and their offsets
-abbrev pub Reads : Reader → Type 0
-Reads f = (file offsets : List ℕ) → (x : Reading) × Verdict file (length offsets) x × (f file offsets .0 ≡ counted x) × (f file offsets .1 ≡ filled x offsets)
+-- ---- readers of job files
 
 -- "A reader that refuses everything"
 abbrev pub ReaderRefuses : Reader → Type 0
@@ -186,4 +174,6 @@ pub record Exhibited : Type 0 where
   pub a-table-invents : (step : Step) × (invented : ℕ → ℕ → ℕ → List ℕ) × Invents step invented × SaysAccepted freshBytes step 2 2
   pub a-reader-makes-up : (f : Reader) × (madeUp : ℕ → List ℕ → ℕ) × MakesUpCount f madeUp
   pub a-table-makes-up : (step : Step) × HandsOver freshBytes step 2 1
+  -- while the table itself says that it accepts too, and keeps demand 3
+  pub this-table-accepts : SaysAccepted freshBytes stepBytes 2 2
   pub a-table-holds-back : (step : Step) × HoldsBack freshBytes step (processed ∷ [])
