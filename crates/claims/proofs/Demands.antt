@@ -1,13 +1,20 @@
 -- The three demands hold, from the crates below. Assumes nothing.
 use Prim.Native.Nat.{ℕ}
 use mathlib.Core.Path.{_≡_, refl, sym, ap, _∙_}
+use mathlib.Core.Bool.{cond}
 use mathlib.Core.List.{List, [], _∷_, _++_}
 use native.Mathlib.Omega.{arith}
+use lib.Dec.{eqb}
 use lib.ListN.{length}
 use Rattle.counts.specs.Limits.{commands, sessions}
 use Rattle.counts.proofs.Results.{passed}
-use Rattle.counts.specs.Result.{Result, done}
+use Rattle.counts.specs.Result.{Result, refused, done}
+use Rattle.field.specs.Part.{put}
+use Rattle.session_name.specs.Name as name
+use Rattle.session_name.specs.declared.Kind.{Kind}
 use Rattle.session_name.proofs.RoundTrip as names
+use Rattle.record.specs.Record.{Content, recordBytes}
+use Rattle.record.specs.Writing as writing
 use Rattle.record.proofs.RoundTrip as records
 use Rattle.grammar.specs.Reading.{Answer as Reading}
 use Rattle.item.proofs.Spelled.{in-file-exactly}
@@ -43,6 +50,18 @@ made-fresh b max e =
     let r = in-range 1 max sessions range in
     rw e (fresh-bytes max (r .0) (r .1))
 
+-- a writer that finds no refusal
+wrote : (k n m : ℕ) (bytes out : List ℕ) → cond {A = Result ℕ} (eqb k 0) (done n) (refused k 0) ≡ done m → cond (eqb k 0) bytes out ≡ bytes
+wrote k n m bytes out e = rw (passed (eqb k 0) _ _ _ e .0)
+
+name-stands : (max n k : ℕ) (kind : Kind) (out : List ℕ) → name.written max n out ≡ done k → name.writtenBytes max n kind out ≡ put out 0 (name.nameOf n kind)
+unfolding name.written name.writtenBytes
+name-stands max n k kind out = wrote (name.writeRefusal max n (length out)) _ k _ out
+
+record-stands : (c : Content) (out : List ℕ) (k : ℕ) → writing.written commands c out ≡ done k → writing.writtenBytes commands c out ≡ put out 0 (recordBytes c)
+unfolding writing.written writing.writtenBytes
+record-stands c out k = wrote (writing.writeRefusal commands c (length out)) _ k _ out
+
 pub demand-1 : Demand1
 unfolding collectedOut
 demand-1 =
@@ -75,7 +94,9 @@ demand-1 =
       one-collected = collect-determined;
       makes-fresh = made-fresh;
       leaves = λ b c e. let d = does b c e in (d .leaves, d .keeps);
-      collect-writes = λ b p t out reply e. rw e;
+      name-written = name-stands;
+      record-written = record-stands;
+      reply-written = λ b p t out reply e. rw e;
       answer-changes = answering-changes-nothing-else;
     }
 

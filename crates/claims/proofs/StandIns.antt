@@ -148,7 +148,7 @@ module _ (fresh : ℕ → List ℕ) (step : Step) (meets : Demand3 fresh step) w
 
   later-is-accepted : Invented fresh step → ⊥
   later-is-accepted w =
-      let y = meets .reply-is-yours (w .max) (w .low) (w .high) (w .calls) (w .later) (w .earlier) (w .program) (w .ticket) (w .room) (w .reply) (w .was-collected) in
+      let y = meets .reply-is-yours (w .run .max) (w .run .low) (w .run .high) (w .run .calls) (w .later) (w .earlier) (w .program) (w .ticket) (w .room) (w .reply) (w .was-collected) in
       w .not-so (y .its-records ∙ ap records (sym (y .one-answer-each)))
 
   module _ (p t : ℕ) (w : SaysAccepted fresh step p t) where
@@ -179,10 +179,10 @@ module _ (fresh : ℕ → List ℕ) (step : Step) (meets : Demand3 fresh step) w
   commands-not-made-up : (n k : ℕ) → (n ≡ k → ⊥) → HandsOver fresh step n k → ⊥
   unfolding historyOf gather placing
   commands-not-made-up n k other w =
-      let h = historyOf fresh step (w .max) (w .calls) in
+      let h = historyOf fresh step (w .run .max) (w .run .calls) in
       let call = toCollect (w .program) (w .ticket) (w .room) in
-      let now : step (bytesAfter fresh step (w .max) (w .calls)) call .0 ∷ h ≡ collected (w .program) (w .ticket) (w .room) (done (w .reply)) ∷ h = ap (λ e. e ∷ h) (w .given) in
-      let y = meets .reply-is-yours (w .max) (w .low) (w .high) (call ∷ w .calls) [] h (w .program) (w .ticket) (w .room) (w .reply) now in
+      let now : step (bytesAfter fresh step (w .run .max) (w .run .calls)) call .0 ∷ h ≡ collected (w .program) (w .ticket) (w .room) (done (w .reply)) ∷ h = ap (λ e. e ∷ h) (w .given) in
+      let y = meets .reply-is-yours (w .run .max) (w .run .low) (w .run .high) (call ∷ w .run .calls) [] h (w .program) (w .ticket) (w .room) (w .reply) now in
       let p = gather-append (placing (w .ticket)) (w .later) (placed (w .program) n (done (w .number, w .ticket)) ∷ w .earlier) in
       let q : placings (w .ticket) (w .later) ++ ((w .number, w .program, n) ∷ placings (w .ticket) (w .earlier)) ≡ (y .number, w .program, length (y .answers)) ∷ [] =
       sym (ap (placings (w .ticket)) (w .was-placed) ∙ p ∙ rw (eq-eqb (w .ticket) (w .ticket) refl)) ∙ y .one-placing in
@@ -192,7 +192,7 @@ module _ (fresh : ℕ → List ℕ) (step : Step) (meets : Demand3 fresh step) w
   commands-not-held-back : (answers : List Answer) → HoldsBack fresh step answers → ⊥
   commands-not-held-back answers w =
       refused-not-done
-      (handed (sym (w .kept) ∙ whole-is-there (w .max) (w .low) (w .high) (w .calls) (w .program) (w .ticket) (w .room) answers (w .whole) (w .enough)))
+      (handed (sym (w .kept) ∙ whole-is-there (w .run .max) (w .run .low) (w .run .high) (w .run .calls) (w .program) (w .ticket) (w .room) answers (w .whole) (w .enough)))
 
 table-must-do : (step : Step) → Demand3 freshBytes step → DoesNothing step → PlacesByRows step → ⊥
 unfolding historyOf bytesAfter gather

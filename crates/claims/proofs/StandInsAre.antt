@@ -25,9 +25,12 @@ use Rattle.session_histories.specs.Runs.{stepBytes}
 use Rattle.session_histories.proofs.Same.{same-history}
 use Rattle.claims.specs.Histories.{Step, bytesAfter, historyOf, Request}
 use Rattle.claims.specs.Demands.{Reader}
-use Rattle.claims.specs.StandIns.{processed, failed, SaysAccepted, DoesNothing, PlacesByRows, Invented, Invents, HandsOver, HoldsBack, MakesUpCount, Exhibited}
+use Rattle.claims.specs.StandIns.{processed, failed, SaysAccepted, Run, DoesNothing, PlacesByRows, Invented, Invents, HandsOver, HoldsBack, MakesUpCount, Exhibited}
 use Rattle.claims.proofs.Demand1Table.{place-exactly}
 use Rattle.claims.proofs.StandIns.{answering-one, hands-over-first, short, handed}
+
+abbrev of-two : List Call → Run
+of-two calls = record { max = 2; low = omega arith; high = omega arith; calls = calls }
 
 -- ---- a table that does nothing, and says that it accepts
 
@@ -156,10 +159,7 @@ held-back : HoldsBack freshBytes (butCollects holds) (processed ∷ [])
 unfolding butCollects holds
 held-back =
     record {
-      max = 2;
-      low = omega arith;
-      high = omega arith;
-      calls = second processed;
+      run = of-two (second processed);
       program = 2;
       ticket = 2;
       whole = second-stands holds processed serves-processed;
@@ -175,10 +175,7 @@ one-invented : Invented freshBytes (butCollects invents)
 unfolding historyOf bytesAfter runs.historyOf runs.bytesAfter butCollects invents second second-events first-events accepted records recordBytes
 one-invented =
     record {
-      max = 2;
-      low = omega arith;
-      high = omega arith;
-      calls = toCollect 2 2 100 ∷ second processed;
+      run = of-two (toCollect 2 2 100 ∷ second processed);
       later = [];
       earlier = second-events processed;
       program = 2;
@@ -217,10 +214,7 @@ hands-over : HandsOver freshBytes shortens 2 1
 unfolding bytesAfter runs.bytesAfter shortens shortened stepBytes accepted
 hands-over =
     record {
-      max = 2;
-      low = omega arith;
-      high = omega arith;
-      calls = shortened;
+      run = of-two shortened;
       later = answered 1 1 processed (done tt) ∷ tookUp (done (0, 1, 1)) ∷ [];
       earlier = [];
       program = 1;

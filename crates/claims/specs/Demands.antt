@@ -84,8 +84,10 @@ pub record Demand1 : Type 0 where
   pub makes-fresh : (b : List ℕ) (max : ℕ) → making b max ≡ done tt → abs (madeBytes b max) ≡ fresh max
   -- a call on a sound table leaves what 01 says of the table without bytes, and a sound table
   pub leaves : (b : List ℕ) (c : Call) → soundBytes b ≡ true → (abs (stepBytes b c .1) ≡ stepOf (abs b) c .1) × (soundBytes (stepBytes b c .1) ≡ true)
-  -- collect "Writes all records in order": from the start of the output on
-  pub collect-writes : (b : List ℕ) (p t : ℕ) (out reply : List ℕ) → collecting b p t (length out) ≡ done reply → collectedOut b p t out ≡ put out 0 reply
+  -- "On success, places beyond those written stay.": a name, a record, a reply ("all records in order") stands at the start of the output
+  pub name-written : (max n k : ℕ) (kind : Kind) (out : List ℕ) → name.written max n out ≡ done k → name.writtenBytes max n kind out ≡ put out 0 (name.nameOf n kind)
+  pub record-written : (c : Content) (out : List ℕ) (k : ℕ) → writing.written commands c out ≡ done k → writing.writtenBytes commands c out ≡ put out 0 (recordBytes c)
+  pub reply-written : (b : List ℕ) (p t : ℕ) (out reply : List ℕ) → collecting b p t (length out) ≡ done reply → collectedOut b p t out ≡ put out 0 reply
   -- "Answering changes one slot's entry and the in-hand mark, nothing else.": every other byte stays, but for the slot's count of answers
   pub answer-changes : (b : List ℕ) (t c : ℕ) (a : Answer) (i : ℕ) → let s = inHand b in
       Beyond i (entryAt s (number b (answeredAt s) + 1)) 4 → Beyond i (answeredAt s) 1 → Beyond i handAt 1

@@ -62,6 +62,13 @@ pub record SaysAccepted (fresh : ℕ → List ℕ) (step : Step) (p t : ℕ) : T
   pub so : Request (historyOf fresh step max (calls processed)) p 1 t (processed ∷ [])
   pub or-so : Request (historyOf fresh step max (calls failed)) p 1 t (failed ∷ [])
 
+-- some calls on a fresh table
+pub record Run : Type 0 where
+  pub max : ℕ
+  pub low : 1 ≤ max
+  pub high : max ≤ sessions
+  pub calls : List Call
+
 -- "A table that does nothing"
 abbrev pub DoesNothing : Step → Type 0
 DoesNothing step = (b : List ℕ) (c : Call) → step b c .1 ≡ b
@@ -72,10 +79,7 @@ PlacesByRows step = (b : List ℕ) (p n : ℕ) → (v : Result (ℕ × ℕ)) × 
 
 -- "One that serves the first session and invents later ones": after some calls it handed over under a later ticket what was not accepted for it
 pub record Invented (fresh : ℕ → List ℕ) (step : Step) : Type 0 where
-  pub max : ℕ
-  pub low : 1 ≤ max
-  pub high : max ≤ sessions
-  pub calls : List Call
+  pub run : Run
   pub later : List Event
   pub earlier : List Event
   pub program : ℕ
@@ -83,7 +87,7 @@ pub record Invented (fresh : ℕ → List ℕ) (step : Step) : Type 0 where
   pub a-later-one : 1 < ticket
   pub room : ℕ
   pub reply : List ℕ
-  pub was-collected : historyOf fresh step max calls ≡ later ++ (collected program ticket room (done reply) ∷ earlier)
+  pub was-collected : historyOf fresh step (run .max) (run .calls) ≡ later ++ (collected program ticket room (done reply) ∷ earlier)
   pub not-so : reply ≡ records (accepted ticket earlier) → ⊥
 
 -- or all that it hands over under later tickets is made up from what the caller shows
@@ -92,35 +96,29 @@ Invents step invented = (b : List ℕ) (p t room : ℕ) (r : List ℕ) → 1 < t
 
 -- "a made-up command count": after some calls a request of n commands, of which k are answered, is handed over
 pub record HandsOver (fresh : ℕ → List ℕ) (step : Step) (n k : ℕ) : Type 0 where
-  pub max : ℕ
-  pub low : 1 ≤ max
-  pub high : max ≤ sessions
-  pub calls : List Call
+  pub run : Run
   pub later : List Event
   pub earlier : List Event
   pub program : ℕ
   pub number : ℕ
   pub ticket : ℕ
-  pub was-placed : historyOf fresh step max calls ≡ later ++ (placed program n (done (number, ticket)) ∷ earlier)
-  pub k-answered : length (accepted ticket (historyOf fresh step max calls)) ≡ k
+  pub was-placed : historyOf fresh step (run .max) (run .calls) ≡ later ++ (placed program n (done (number, ticket)) ∷ earlier)
+  pub k-answered : length (accepted ticket (historyOf fresh step (run .max) (run .calls))) ≡ k
   pub room : ℕ
   pub reply : List ℕ
-  pub given : step (bytesAfter fresh step max calls) (toCollect program ticket room) .0 ≡ collected program ticket room (done reply)
+  pub given : step (bytesAfter fresh step (run .max) (run .calls)) (toCollect program ticket room) .0 ≡ collected program ticket room (done reply)
 
 -- or one that is answered whole is held back
 pub record HoldsBack (fresh : ℕ → List ℕ) (step : Step) (answers : List Answer) : Type 0 where
-  pub max : ℕ
-  pub low : 1 ≤ max
-  pub high : max ≤ sessions
-  pub calls : List Call
+  pub run : Run
   pub program : ℕ
   pub ticket : ℕ
-  pub whole : Request (historyOf fresh step max calls) program (length answers) ticket answers
+  pub whole : Request (historyOf fresh step (run .max) (run .calls)) program (length answers) ticket answers
   pub room : ℕ
   pub enough : length (records (numbered 1 answers)) ≤ room
   pub number : ℕ
   pub place : ℕ
-  pub kept : step (bytesAfter fresh step max calls) (toCollect program ticket room) .0 ≡ collected program ticket room (refused number place)
+  pub kept : step (bytesAfter fresh step (run .max) (run .calls)) (toCollect program ticket room) .0 ≡ collected program ticket room (refused number place)
 
 -- ---- readers of job files
 
