@@ -2,9 +2,9 @@
 -- that meet a call's contract are equal. "A refusal comes exactly where document 01 says ... and leaves all lent memory as it found it": an answer is
 -- given exactly under its row's condition, and a refused call's memory at exit is its memory at entry. The calls of `calendar` answer yes or no by one
 -- word of specs/, so their contracts are equations and nothing is left to say of them. Assumes nothing.
-use Prim.Native.Nat.{ℕ, _≤_, _<_}
+use Prim.Native.Nat.{ℕ}
 use mathlib.Core.Path.{_≡_, refl, sym, _∙_}
-use mathlib.Core.Bool.{Bool, true, false, cond, _&&_}
+use mathlib.Core.Bool.{Bool, true, false, cond}
 use mathlib.Core.List.{List}
 use mathlib.Core.Logic.{_⊎_, inl, inr, ⊎-elim}
 use lib.Dec.{eqb, leb, ltb}
@@ -16,40 +16,20 @@ use Rattle.counts.proofs.Results.{refused-not-done}
 use Rattle.field.specs.Bytes.{ascii, hasAt}
 use Rattle.decimal.specs.declared.DigitsRead.{DigitsRead}
 use Rattle.decimal.specs.declared.DigitsRead.the-variants.{Value, NotDigits}
-use Rattle.session_name.specs.Name.{isMax, nameOf, noName, kindRead, numberRead, isFramed, nameRead, writeRefusal, written, writtenBytes, ReadsName, WritesName}
+use Rattle.session_name.specs.Name.{noName, kindRead, numberRead, isFramed, nameRead, writeRefusal, written, writtenBytes, readSays, writeSays}
 use Rattle.session_name.specs.declared.Kind.{Kind}
 use Rattle.session_name.specs.declared.Kind.the-variants.{Request, Response}
-use Rattle.session_name.specs.declared.NameRead.{NameRead}
-use Rattle.session_name.specs.declared.NameWritten.{NameWritten}
 use Rattle.session_name.proofs.Says.{read-says-all, write-says-all}
 use Rattle.session_name.proofs.RoundTrip.{name-reads, name-back}
-use Rattle.claims.proofs.Demand1.{Exactly, refused-stays}
+use Rattle.claims.specs.Exactly.{Exactly, OneResult}
+use Rattle.claims.specs.NameRows.{inRange, WriteNameRow, not-in-range, no-room, name-written, ReadNameRow, name-read, no-name}
+use Rattle.claims.proofs.Demand1.{refused-stays, one-result}
 
--- ---- the rows, one statement a call
+pub read-name-determined : OneResult (Unit {0}) readSays
+read-name-determined = one-result read-says-all
 
--- "number below MaxSessions", MaxSessions "1 to 32"
-abbrev pub inRange : ℕ → ℕ → Bool
-inRange max n = isMax max && ltb n max
-
--- write_name: "tests MaxSessions, then number or name (11), then room (8)"
-pub data WriteNameRow (max n room : ℕ) : Result ℕ → Type 0 where
-  not-in-range : inRange max n ≡ false → WriteNameRow max n room (refused outOfRange 0)
-  no-room : inRange max n ≡ true → room < 12 → WriteNameRow max n room (refused tooLittleRoom 0)
-  name-written : inRange max n ≡ true → 12 ≤ room → WriteNameRow max n room (done 12)
-
--- read_name: a name is taken exactly when it is one, and all else gets 11
-pub data ReadNameRow (max : ℕ) (name : List ℕ) : Result (ℕ × Kind) → Type 0 where
-  name-read : (n : ℕ) (kind : Kind) → inRange max n ≡ true → name ≡ nameOf n kind → ReadNameRow max name (done (n, kind))
-  no-name : ((n : ℕ) (kind : Kind) → inRange max n ≡ true → name ≡ nameOf n kind → ⊥) → ReadNameRow max name (refused outOfRange 0)
-
--- ---- the proofs
-
-pub read-name-determined : (max : ℕ) (name : List ℕ) (a b : NameRead) → ReadsName max name a → ReadsName max name b → a ≡ b
-read-name-determined max name a b p q = read-says-all a b (p ∙ sym q)
-
-pub write-name-determined : (max n : ℕ) (kind : Kind) (entry exit exit′ : List ℕ) (a b : NameWritten)
-    → WritesName max n kind entry exit a → WritesName max n kind entry exit′ b → (a ≡ b) × (exit ≡ exit′)
-write-name-determined max n kind entry exit exit′ a b p q = (write-says-all a b (p .0 ∙ sym (q .0)), p .1 ∙ sym (q .1))
+pub write-name-determined : OneResult (List ℕ) writeSays
+write-name-determined = one-result write-says-all
 
 write-rows : (max n : ℕ) (out : List ℕ) → WriteNameRow max n (length out) (written max n out)
 unfolding written writeRefusal

@@ -1,36 +1,24 @@
 -- Demand 1 for the calls on records. Two results that meet a call's contract are equal, answer and lent output; the writer's answers are given exactly
--- under their rows' conditions, in document 01's order; a refused call leaves the lent output as it was. That the reader refuses exactly the bytes that
--- are no permitted record's, and always with 7, is `read-exactly` and `only-seven` of `crates/record/proofs/RoundTrip`. Assumes nothing.
-use Prim.Native.Nat.{ℕ, _≤_, _<_}
-use mathlib.Core.Path.{_≡_, refl, sym, _∙_}
+-- under their rows' conditions, in document 01's order; a refused call leaves the lent output as it was. Assumes nothing.
+use Prim.Native.Nat.{ℕ, _<_}
+use mathlib.Core.Path.{_≡_, refl, sym, ap, _∙_}
 use mathlib.Core.Bool.{Bool, true, false, cond}
 use mathlib.Core.List.{List}
 use lib.Dec.{eqb, leb}
 use lib.ListN.{length}
 use borrow.Author.Tests.{le-leb, lt-leb, leb-true, leb-false}
 use Rattle.counts.specs.Refusals.{notReal, notARecord, tooLittleRoom}
+use Rattle.counts.proofs.Results.{refused-not-done}
 use Rattle.counts.specs.Result.{Result, refused, done}
-use Rattle.record.specs.Record.{Content, inRange, isReal, recordBytes}
-use Rattle.record.specs.Reading.{recordRead, readSays}
+use Rattle.record.specs.Record.{Content, isReal, recordBytes}
+use Rattle.record.specs.Reading.{recordRead, readSays, contentOf, withText}
 use Rattle.record.specs.Writing.{writeRefusal, written, writtenBytes, writeSays}
-use Rattle.record.specs.declared.RecordRead.{RecordRead}
-use Rattle.record.specs.declared.Written.{Written}
+use Rattle.record.specs.declared.Record.{Record}
+use Rattle.record.proofs.RoundTrip.{read-exactly, only-seven}
 use Rattle.record.proofs.Says.{read-says-all, write-says-all}
-use Rattle.claims.proofs.Demand1.{Exactly, refused-stays}
-
--- ---- the rows: "The writer tests number, class, code and text (7), then date and time (5), then room (8)."
-
-abbrev pub fieldsInRange : ℕ → Content → Bool
-fieldsInRange limit c = inRange limit (c .number) (c .outcome) (c .text)
-
-pub data WriteRow (limit : ℕ) (c : Content) (room : ℕ) : Result ℕ → Type 0 where
-  seven : fieldsInRange limit c ≡ false → WriteRow limit c room (refused notARecord 0)
-  five : fieldsInRange limit c ≡ true → isReal (c .date) (c .time) ≡ false → WriteRow limit c room (refused notReal 0)
-  eight : fieldsInRange limit c ≡ true → isReal (c .date) (c .time) ≡ true → room < length (recordBytes c) → WriteRow limit c room (refused tooLittleRoom 0)
-  record-written : fieldsInRange limit c ≡ true → isReal (c .date) (c .time) ≡ true → length (recordBytes c) ≤ room
-      → WriteRow limit c room (done (length (recordBytes c)))
-
--- ---- the proofs
+use Rattle.claims.specs.Exactly.{Exactly, OneResult}
+use Rattle.claims.specs.RecordRows.{fieldsInRange, WriteRow, seven, five, eight, record-written, ReadRow, record-read, no-record}
+use Rattle.claims.proofs.Demand1.{refused-stays, one-result}
 
 write-rows : (limit : ℕ) (c : Content) (out : List ℕ) → WriteRow limit c (length out) (written limit c out)
 unfolding written writeRefusal
@@ -59,11 +47,27 @@ pub refused-record-changes-nothing : (limit : ℕ) (c : Content) (out : List ℕ
 unfolding written writtenBytes
 refused-record-changes-nothing limit c out number place = refused-stays (writeRefusal limit c (length out)) _ _ out number place
 
-pub read-record-determined : (limit : ℕ) (bytes : List ℕ) (a b : RecordRead) → readSays a ≡ recordRead limit bytes → readSays b ≡ recordRead limit bytes → a ≡ b
-read-record-determined limit bytes a b p q = read-says-all a b (p ∙ sym q)
+module _ (limit : ℕ) (most : limit < 100000000) (s : List ℕ) where
+  read-rows : (x : Result Record) → recordRead limit s ≡ x → ReadRow limit s (withText s x)
+  read-rows (done r) e = let c = read-exactly limit most s (contentOf s r) .0 (ap (withText s) e) in record-read (contentOf s r) (c .0) (c .1)
+  read-rows (refused n p) e =
+      let seven-only = only-seven limit s n p e in
+      rw (seven-only .0, seven-only .1)
+      (no-record (λ c ok bytes. refused-not-done (ap (withText s) (sym e) ∙ read-exactly limit most s c .1 (ok, bytes))))
 
-pub write-record-determined : (limit : ℕ) (c : Content) (entry exit exit′ : List ℕ) (a b : Written)
-    → (writeSays a ≡ written limit c entry) × (exit ≡ writtenBytes limit c entry)
-    → (writeSays b ≡ written limit c entry) × (exit′ ≡ writtenBytes limit c entry)
-    → (a ≡ b) × (exit ≡ exit′)
-write-record-determined limit c entry exit exit′ a b p q = (write-says-all a b (p .0 ∙ sym (q .0)), p .1 ∙ sym (q .1))
+  read-row-is : (v : Result Content) → ReadRow limit s v → withText s (recordRead limit s) ≡ v
+  read-row-is v (record-read c ok bytes) = read-exactly limit most s c .1 (ok, bytes)
+  read-row-is v (no-record none) = go (recordRead limit s) refl
+    where
+      go : (x : Result Record) → recordRead limit s ≡ x → withText s x ≡ refused notARecord 0
+      go (done r) e = let c = read-exactly limit most s (contentOf s r) .0 (ap (withText s) e) in absurd (none (contentOf s r) (c .0) (c .1))
+      go (refused n p) e = let seven-only = only-seven limit s n p e in rw (seven-only .0, seven-only .1)
+
+  pub read-record-exactly : Exactly (withText s (recordRead limit s)) (ReadRow limit s)
+  read-record-exactly = (read-rows (recordRead limit s) refl, read-row-is)
+
+pub read-record-determined : OneResult (Unit {0}) readSays
+read-record-determined = one-result read-says-all
+
+pub write-record-determined : OneResult (List ℕ) writeSays
+write-record-determined = one-result write-says-all

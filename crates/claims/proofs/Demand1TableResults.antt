@@ -20,6 +20,8 @@ use Rattle.session_table.specs.declared.Answered.{Answered}
 use Rattle.session_table.specs.declared.Answered.the-variants.{Accepted, Refused as NotAnswered}
 use Rattle.session_table.specs.declared.Collected.{Collected}
 use Rattle.session_table.specs.declared.Collected.the-variants.{Written, Refused as NotCollected}
+use Rattle.claims.specs.Exactly.{OneResult}
+use Rattle.claims.proofs.Demand1.{one-result}
 
 -- ---- a refused call leaves every byte as it was: one law for all calls, whose bytes at exit are `after` their answer
 
@@ -88,28 +90,17 @@ collected-all (Written n) (NotCollected r) h = absurd (refused-not-done (sym h))
 collected-all (NotCollected r) (Written n) h = absurd (refused-not-done h)
 collected-all (NotCollected r) (NotCollected t) h = ap NotCollected (same-refusal (cc) (cc))
 
--- a contract of the shape that every call of the table has: the answer's paper value, and the bytes at exit
-abbrev pub Meets : {A B : Type 0} → (A → B) → B → List ℕ → A → List ℕ → Type 0
-Meets says v bytes r exit = (says r ≡ v) × (exit ≡ bytes)
+pub make-determined : OneResult (List ℕ) paperMade
+make-determined = one-result made-all
 
-abbrev pub OneResult : {A B : Type 0} → (A → B) → Type 0
-OneResult {A} {B} says =
-    (v : B) (bytes : List ℕ) (a b : A) (exit exit′ : List ℕ) → Meets says v bytes a exit → Meets says v bytes b exit′ → (a ≡ b) × (exit ≡ exit′)
+pub place-determined : OneResult (List ℕ) paperPlaced
+place-determined = one-result placed-all
 
-one-result : {A B : Type 0} (says : A → B) → ((a b : A) → says a ≡ says b → a ≡ b) → OneResult says
-one-result says all v bytes a b exit exit′ p q = (all a b (p .0 ∙ sym (q .0)), p .1 ∙ sym (q .1))
+pub take-up-determined : OneResult (List ℕ) paperTakenUp
+take-up-determined = one-result taken-up-all
 
-pub make-determined : OneResult paperMade
-make-determined = one-result paperMade made-all
-
-pub place-determined : OneResult paperPlaced
-place-determined = one-result paperPlaced placed-all
-
-pub take-up-determined : OneResult paperTakenUp
-take-up-determined = one-result paperTakenUp taken-up-all
-
-pub answer-determined : OneResult paperAnswered
-answer-determined = one-result paperAnswered answered-all
+pub answer-determined : OneResult (List ℕ) paperAnswered
+answer-determined = one-result answered-all
 
 -- collect is lent two memories, and its contract says both
 pub collect-determined : (b : List ℕ) (p t : ℕ) (out : List ℕ) (r r′ : Collected) (exit exit′ out-exit out-exit′ : List ℕ)

@@ -4,4 +4,6 @@ pub mod Demand1Names
 pub mod Demand1Records
 pub mod Demand1Table
 pub mod Demand1TableResults
+pub mod Demands
 pub mod StandIns
+pub mod StandInsAre

@@ -1,1 +1,8 @@
 pub mod Examples
+pub mod Exactly
+pub mod NameRows
+pub mod RecordRows
+pub mod TableRows
+pub mod Histories
+pub mod Demands
+pub mod StandIns
