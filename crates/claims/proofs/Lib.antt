@@ -4,6 +4,9 @@ pub mod Demand1Names
 pub mod Demand1Records
 pub mod Demand1Table
 pub mod Demand1TableResults
+pub mod Demand1Statements
+pub mod Computed
+pub mod Demand3
 pub mod Demands
 pub mod StandIns
 pub mod StandInsAre

@@ -1,40 +1,47 @@
 -- No stand-in keeps the demand that document 01 says it breaks. Assumes nothing.
-use Prim.Native.Nat.{ℕ, _≤_, _<_}
+use Prim.Native.Nat.{ℕ, _+_, _≤_, _<_}
 use mathlib.Core.Path.{_≡_, refl, sym, ap, _∙_}
+use mathlib.Core.Bool.{true}
 use mathlib.Core.List.{List, [], _∷_, _++_}
 use native.Mathlib.Omega.{arith}
-use lib.ListN.{length, length-append}
+use lib.ListN.{length, length-append, replicate, length-replicate}
 use borrow.Author.Tests.{eq-eqb, le-leb}
 use Rattle.calendar.specs.Calendar.{februaryLength, monthLength, realDate, realTime}
-use Rattle.counts.specs.Limits.{sessions}
 use Rattle.counts.specs.Result.{Result, done}
 use Rattle.counts.proofs.Results.{refused-not-done}
 use Rattle.decimal.specs.Digits.{digits, widthFrom, plainWidth, plain}
 use Rattle.field.specs.Bytes.{ascii, same, hasAt}
 use Rattle.field.specs.Part.{part}
 use Rattle.scan.specs.Run.{run, runEnd, blank, blankEnd}
-use Rattle.token.specs.Token.{wordAt, textAt, isTimeAt, isNumberAt, shapedAt, numericAt, signAt, tokenAt, nextToken}
+use Rattle.token.specs.Token.{wordAt, textAt, isTextAt, isTimeAt, isNumberAt, shapedAt, numericAt, signAt, tokenAt, nextToken}
 use Rattle.item.specs.Tokens.{abortClass, clauseClass, wordClass, numberClass, dateNumber, timeNumber, itemOf, nextItem, lineFrom, line}
+use Rattle.item.specs.Items.{numbered as numbered-item, itemAt}
 use Rattle.grammar.specs.Reading.{read}
+use Rattle.statement.specs.Statement.{oneOf, ending, infoFile, jobName, jobResponse, jobFile, statementOf}
+use Rattle.statement.specs.declared.Statement.{Statement}
+use Rattle.statement.specs.declared.Statement.the-variants.{Job, GetInfo}
 use Rattle.job.specs.Job.{counted, readJob}
+use Rattle.job.specs.Statement.{placed as placedAt, readStatement}
 use Rattle.job_claims.proofs.Claims.{only}
 use Rattle.record.specs.Record.{isReal, momentBytes, recordBytes}
+use Rattle.record.specs.declared.Outcome.the-variants.{Processed}
 use Rattle.sessions.proofs.Owing.{length-numbered}
 use Rattle.sessions.proofs.Past.{head-same, gather-append}
 use Rattle.sessions.specs.Find.{find, put}
-use Rattle.sessions.specs.History.{Call, toPlace, toTakeUp, toAnswer, toCollect, placed, tookUp, collected, accepted, gather, placing, placings, step as stepWithout, table, history}
-use Rattle.sessions.specs.Table.{fresh as freshState, isOpen, isWaiting, isReady, names, numbered, records, placeIn, place, takeNext, takeHand, takeUp, answerHand, answer, collectFrom, collect}
+use Rattle.sessions.specs.History.{Event, placed, tookUp, collected, written, gather, placing, placings}
+use Rattle.sessions.specs.Table.{State, fresh as freshState, isOpen, isWaiting, isReady, names, numbered, records, placeIn, place, takeNext, takeHand, takeUp, answerHand, answer, collectFrom, collect}
 use Rattle.sessions.specs.declared.Answer.{Answer}
 use Rattle.session_table.specs.Calls.{freshBytes}
 use Rattle.session_table.specs.Calls as calls
-use Rattle.session_histories.specs.Runs as runs
-use Rattle.session_histories.specs.Runs.{stepBytes}
-use Rattle.session_histories.proofs.Same.{same-history, place-same, collect-same}
+use Rattle.session_histories.specs.Runs.{Call, toPlace, toTakeUp, toAnswer, toCollect, Step, stepBytes, bytesAfter, historyOf, neverAnew}
+use Rattle.session_histories.proofs.Does.{collecting-is}
+use Rattle.session_histories.proofs.Same.{sound-after}
 use Rattle.table_sound.specs.Bytes.{abs}
-use Rattle.claims.specs.Histories.{Step, bytesAfter, historyOf, Request}
-use Rattle.claims.specs.Demands.{Reader, Reads, Demand3}
-use Rattle.claims.specs.StandIns.{processed, failed, SaysAccepted, DoesNothing, PlacesByRows, Invented, Invents, HandsOver, HoldsBack, PlaceCall, TakeUpCall, CollectCall, PlaceRefuses, TakeUpRefuses, CollectRefuses, IsRefused, ReaderRefuses, OneReading, MakesUpCount, Refuted}
+use Rattle.claims.specs.Demands.{Reader, Reads, Serves, Demand3}
+use Rattle.claims.specs.StandIns.{Request, Run, bytesBy, historyBy, SaysAccepted, DoesNothing, PlacesByRows, Invented, Invents, HandsOver, HoldsBack, PlaceCall, TakeUpCall, CollectCall, PlaceRefuses, TakeUpRefuses, CollectRefuses, IsRefused, ReaderRefuses, OneReading, MakesUpCount, StatementReader, ReadsStatements, StatementRefuses, OneStatement, Refuted}
 use Rattle.claims.specs.TableRows.{PlaceRow, TakeUpRow, CollectRow}
+use Rattle.claims.proofs.Computed.{step as stepWithout, table, holds, gives}
+use Rattle.claims.proofs.Demand1Statements.{read-statement-exactly}
 use Rattle.claims.proofs.Demand1Table.{place-exactly, take-up-exactly, collect-exactly}
 
 -- ---- readers: two files of one length, with one statement and with two
@@ -46,11 +53,11 @@ pair : List ℕ
 pair = ascii "JOB a RESPONSE \"x\";GETINFO \"y\";"
 
 lone-is : readJob lone 2 ≡ done (0 ∷ [])
-unfolding lone part same hasAt run runEnd blank blankEnd wordAt textAt isTimeAt isNumberAt shapedAt numericAt signAt tokenAt nextToken abortClass clauseClass wordClass numberClass dateNumber timeNumber itemOf nextItem lineFrom line read readJob
+unfolding lone part same hasAt run runEnd blank blankEnd wordAt textAt isTextAt isTimeAt isNumberAt shapedAt numericAt signAt tokenAt nextToken abortClass clauseClass wordClass numberClass dateNumber timeNumber itemOf nextItem lineFrom line read readJob
 lone-is = refl
 
 pair-is : readJob pair 2 ≡ done (0 ∷ 19 ∷ [])
-unfolding pair part same hasAt run runEnd blank blankEnd wordAt textAt isTimeAt isNumberAt shapedAt numericAt signAt tokenAt nextToken abortClass clauseClass wordClass numberClass dateNumber timeNumber itemOf nextItem lineFrom line read readJob
+unfolding pair part same hasAt run runEnd blank blankEnd wordAt textAt isTextAt isTimeAt isNumberAt shapedAt numericAt signAt tokenAt nextToken abortClass clauseClass wordClass numberClass dateNumber timeNumber itemOf nextItem lineFrom line read readJob
 pair-is = refl
 
 -- a lent table of two places
@@ -78,7 +85,40 @@ module _ (f : Reader) (meets : Reads f) where
       let z : _≡_ {A = ℕ} 1 2 = cc in
       omega arith
 
+-- ---- readers of one statement: two files whose statements differ
+
+info : List ℕ
+info = ascii "GETINFO \"y\";"
+
+info-read : (f : StatementReader) → ReadsStatements f → f info 0 ≡ readStatement info 0
+info-read f rows = sym (read-statement-exactly info 0 .1 (f info 0) (rows info 0))
+
+job-read : (f : StatementReader) → ReadsStatements f → f lone 0 ≡ readStatement lone 0
+job-read f rows = sym (read-statement-exactly lone 0 .1 (f lone 0) (rows lone 0))
+
+info-is : (e : ℕ) × readStatement info 0 ≡ done (placedAt (GetInfo 8) 0 e)
+unfolding info part same hasAt run runEnd blank blankEnd wordAt textAt isTextAt isTimeAt isNumberAt shapedAt numericAt signAt tokenAt nextToken abortClass clauseClass wordClass numberClass dateNumber timeNumber numbered-item itemAt oneOf ending infoFile jobName jobResponse jobFile statementOf readStatement
+info-is = (_, refl)
+
+job-is : (e : ℕ) × readStatement lone 0 ≡ done (placedAt (Job (record { place = 4; length = 1 }) 15) 0 e)
+unfolding lone part same hasAt run runEnd blank blankEnd wordAt textAt isTextAt isTimeAt isNumberAt shapedAt numericAt signAt tokenAt nextToken abortClass clauseClass wordClass numberClass dateNumber timeNumber numbered-item itemAt oneOf ending infoFile jobName jobResponse jobFile statementOf readStatement
+job-is = (_, refl)
+
+statement-must-be-read : (f : StatementReader) → ReadsStatements f → StatementRefuses f → ⊥
+statement-must-be-read f rows never = refused-not-done (sym (never info 0 .2) ∙ info-read f rows ∙ info-is .1)
+
+statement-must-look : (f : StatementReader) → ReadsStatements f → (x : Statement) → OneStatement f x → ⊥
+statement-must-look f rows x always =
+    let a = always info 0 _ (info-read f rows ∙ info-is .1) in
+    let b = always lone 0 _ (job-read f rows ∙ job-is .1) in
+    let e : GetInfo 8 ≡ Job (record { place = 4; length = 1 }) 15 = a ∙ sym b in
+    let z : _≡_ {A = ℕ} 0 1 = cc in
+    omega arith
+
 -- ---- tables that calls reach on lent bytes: program 1 places a request of one command; it is taken up; it is answered
+
+abbrev pub processed : Answer
+processed = record { outcome = Processed; date = 20240430; time = 235959 }
 
 abbrev placing-one : List Call
 placing-one = toPlace 1 1 ∷ []
@@ -86,20 +126,44 @@ placing-one = toPlace 1 1 ∷ []
 abbrev pub answering-one : List Call
 answering-one = toAnswer 1 1 processed ∷ toTakeUp ∷ placing-one
 
-pub places-first : calls.placing (freshBytes 2) 1 1 ≡ done (0, 1)
-unfolding runs.bytesAfter table freshState isOpen find put placeIn place
-places-first = place-same 2 (omega arith) (omega arith) [] 1 1
+-- an output with room for a reply of one record
+abbrev pub output : List ℕ
+output = replicate 100 0
 
-took : {r v : Result (ℕ × ℕ × ℕ)} → tookUp r ≡ tookUp v → r ≡ v
-took e = cc
+abbrev of-two : List Call → List ℕ
+of-two = bytesAfter (freshBytes 2) stepBytes
 
-gives-first : calls.takingUp (runs.bytesAfter 2 placing-one) ≡ done (0, 1, 1)
-unfolding runs.historyOf stepBytes history stepWithout table freshState isOpen isWaiting find put placeIn place takeNext takeHand takeUp
-gives-first = took (head-same (same-history 2 (omega arith) (omega arith) (toTakeUp ∷ placing-one)))
+pub kept : neverAnew answering-one ≡ true
+unfolding neverAnew
+kept = refl
 
-pub hands-over-first : calls.collecting (runs.bytesAfter 2 answering-one) 1 1 100 ≡ done (records (numbered 1 (processed ∷ [])))
+kept-one : neverAnew placing-one ≡ true
+unfolding neverAnew
+kept-one = refl
+
+kept-none : neverAnew [] ≡ true
+unfolding neverAnew
+kept-none = refl
+
+placed-so : {p n : ℕ} {r v : Result (ℕ × ℕ)} → placed p n r ≡ placed p n v → r ≡ v
+placed-so e = cc
+
+took-so : {r v : Result (ℕ × ℕ × ℕ)} → tookUp r ≡ tookUp v → r ≡ v
+took-so e = cc
+
+places-first : calls.placing (freshBytes 2) 1 1 ≡ done (0, 1)
+unfolding bytesAfter stepBytes stepWithout table freshState isOpen find put placeIn place
+places-first = placed-so (gives 2 (omega arith) (omega arith) [] kept-none (toPlace 1 1) refl)
+
+gives-first : calls.takingUp (of-two placing-one) ≡ done (0, 1, 1)
+unfolding stepBytes stepWithout table freshState isOpen isWaiting find put placeIn place takeNext takeHand takeUp
+gives-first = took-so (gives 2 (omega arith) (omega arith) placing-one kept-one toTakeUp refl)
+
+pub hands-over-first : calls.collecting (of-two answering-one) 1 1 (length output) ≡ done (records (numbered 1 (processed ∷ [])))
 unfolding stepWithout table freshState isOpen isWaiting isReady find put names placeIn place takeNext takeHand takeUp answerHand answer collectFrom collect numbered records isReal februaryLength monthLength realDate realTime digits widthFrom plainWidth plain momentBytes recordBytes
-hands-over-first = collect-same 2 (omega arith) (omega arith) answering-one 1 1 100
+hands-over-first =
+    collecting-is (of-two answering-one) (sound-after 2 (omega arith) (omega arith) answering-one kept) 1 1 output
+    ∙ ap (λ (σ : State). collect σ 1 1 (length output) .0) (holds 2 (omega arith) (omega arith) answering-one kept)
 
 -- ---- calls that always refuse
 
@@ -110,79 +174,87 @@ place-must-take : (f : PlaceCall) → ((b : List ℕ) (p n : ℕ) → PlaceRow b
 place-must-take f rows never = let b = freshBytes 2 in must (place-exactly b 1 1 .1 _ (rows b 1 1)) places-first (never b 1 1)
 
 take-up-must-give : (f : TakeUpCall) → ((b : List ℕ) → TakeUpRow b (abs b) (f b .0)) → TakeUpRefuses f → ⊥
-take-up-must-give f rows never = let b = runs.bytesAfter 2 placing-one in must (take-up-exactly b .1 _ (rows b)) gives-first (never b)
+take-up-must-give f rows never = let b = of-two placing-one in must (take-up-exactly b .1 _ (rows b)) gives-first (never b)
 
 collect-must-give : (f : CollectCall) → ((b : List ℕ) (p t room : ℕ) → CollectRow b (abs b) p t room (f b p t room .0)) → CollectRefuses f → ⊥
 collect-must-give f rows never =
-    let b = runs.bytesAfter 2 answering-one in
-    must (collect-exactly b 1 1 100 .1 _ (rows b 1 1 100)) hands-over-first (never b 1 1 100)
+    let b = of-two answering-one in
+    let room = length output in
+    must (collect-exactly b 1 1 room .1 _ (rows b 1 1 room)) hands-over-first (never b 1 1 room)
 
 -- ---- tables
 
-pub handed : {p t room : ℕ} {r v : Result (List ℕ)} → collected p t room r ≡ collected p t room v → r ≡ v
+-- what a collection answers
+pub handed : {p t : ℕ} {out exit exit′ : List ℕ} {r v : Result ℕ} → collected p t out r exit ≡ collected p t out v exit′ → r ≡ v
 handed e = cc
 
--- the two replies have different lengths
-pub differ : records (numbered 1 (processed ∷ [])) ≡ records (numbered 1 (failed ∷ [])) → ⊥
-unfolding numbered records digits widthFrom plainWidth plain momentBytes recordBytes
-differ e = let n : _≡_ {A = ℕ} 43 51 = ap length e in omega arith
-
-pub short : (length (records (numbered 1 (processed ∷ []))) ≤ 100) × (length (records (numbered 1 (failed ∷ []))) ≤ 100)
-unfolding numbered records digits widthFrom plainWidth plain momentBytes recordBytes
-short = (omega arith, omega arith)
+pub same-done : {A : Type 0} {x y : A} → done x ≡ done y → x ≡ y
+same-done e = cc
 
 -- what stands in a list of one is that one
 one-of : {A : Type 0} (l m : List A) {x y : A} → l ++ (x ∷ m) ≡ y ∷ [] → x ≡ y
 one-of [] m e = head-same e
 one-of (z ∷ l) m {x} e = absurd (omega (arith, ap length e, length-append l (x ∷ m)))
 
+abbrev reply : List Answer → List ℕ
+reply answers = records (numbered 1 answers)
+
 module _ (fresh : ℕ → List ℕ) (step : Step) (meets : Demand3 fresh step) where
+  serves : (r : Run) → Serves step (bytesBy fresh step r) (historyBy fresh step r)
+  serves r = meets (r .max) (r .low) (r .high) (r .calls) (r .kept)
+
   -- who owns a request that is answered whole is handed its records
-  whole-is-there : (max : ℕ) → 1 ≤ max → max ≤ sessions → (cs : List Call) (p t room : ℕ) (answers : List Answer)
-      → Request (historyOf fresh step max cs) p (length answers) t answers → length (records (numbered 1 answers)) ≤ room
-      → step (bytesAfter fresh step max cs) (toCollect p t room) .0 ≡ collected p t room (done (records (numbered 1 answers)))
-  whole-is-there max low high cs p t room answers w enough =
-      let l : length (accepted t (w .later)) ≡ length answers = ap length (w .so-far) ∙ length-numbered 1 answers in
-      meets .reply-is-there max low high cs (w .later) (w .earlier) p (length answers) (w .number) t room (w .was-placed) l (w .not-collected)
-      ∙ rw (w .so-far, le-leb (length (records (numbered 1 answers))) room enough)
+  whole-is-there : (r : Run) (p t : ℕ) (answers : List Answer) (out : List ℕ) → Request (historyBy fresh step r) p t answers
+      → length (reply answers) ≤ length out
+      → step (bytesBy fresh step r) (toCollect p t out) .0 ≡ collected p t out (done (length (reply answers))) (written out (reply answers))
+  whole-is-there r p t answers out w enough =
+      serves r .reply-is-there p (length answers) (w .number) t (w .later) (w .earlier) (w .was-placed) (w .last) (w .newer) (w .older) (w .last-answered)
+      (w .not-collected) out
+      ∙ rw (w .so-far, le-leb (length (reply answers)) (length out) enough)
 
   later-is-accepted : Invented fresh step → ⊥
   later-is-accepted w =
-      let y = meets .reply-is-yours (w .run .max) (w .run .low) (w .run .high) (w .run .calls) (w .later) (w .earlier) (w .program) (w .ticket) (w .room) (w .reply) (w .was-collected) in
-      w .not-so (y .its-records ∙ ap records (sym (y .one-answer-each)))
+      let y = serves (w .run) .reply-is-yours (w .program) (w .ticket) (w .length-given) (w .output) (w .exit) (w .later) (w .earlier) (w .was-collected) in
+      w .not-so (y .its-records ∙ ap (λ (l : List (ℕ × Answer)). written (w .output) (records l)) (sym (y .one-answer-each)))
+
+  stays : DoesNothing step → (start : List ℕ) (cs : List Call) → bytesAfter start step cs ≡ start
+  unfolding bytesAfter
+  stays never start [] = refl
+  stays never start (c ∷ cs) = never (bytesAfter start step cs) c ∙ stays never start cs
 
   module _ (p t : ℕ) (w : SaysAccepted fresh step p t) where
-    abbrev bytes : Answer → List ℕ
-    bytes a = bytesAfter fresh step (w .max) (w .calls a)
+    -- room for both
+    abbrev both : List ℕ
+    both = replicate (length (reply (w .these)) + length (reply (w .those))) 0
 
-    hands-processed : step (bytes processed) (toCollect p t 100) .0 ≡ collected p t 100 (done (records (numbered 1 (processed ∷ []))))
-    hands-processed = whole-is-there (w .max) (w .low) (w .high) (w .calls processed) p t 100 (processed ∷ []) (w .so) (short .0)
+    room : length both ≡ length (reply (w .these)) + length (reply (w .those))
+    room = length-replicate _ 0
 
-    hands-failed : step (bytes failed) (toCollect p t 100) .0 ≡ collected p t 100 (done (records (numbered 1 (failed ∷ []))))
-    hands-failed = whole-is-there (w .max) (w .low) (w .high) (w .calls failed) p t 100 (failed ∷ []) (w .or-so) (short .1)
+    hands-these : step (bytesBy fresh step (w .run)) (toCollect p t both) .0 ≡ collected p t both (done (length (reply (w .these)))) (written both (reply (w .these)))
+    hands-these = whole-is-there (w .run) p t (w .these) both (w .so) (omega (arith, room))
 
-    later-not-invented : (invented : ℕ → ℕ → ℕ → List ℕ) → Invents step invented → 1 < t → ⊥
+    hands-those : step (bytesBy fresh step (w .other)) (toCollect p t both) .0 ≡ collected p t both (done (length (reply (w .those)))) (written both (reply (w .those)))
+    hands-those = whole-is-there (w .other) p t (w .those) both (w .or-so) (omega (arith, room))
+
+    later-not-invented : (invented : ℕ → ℕ → List ℕ → ℕ × List ℕ) → Invents step invented → 1 < t → ⊥
     later-not-invented invented always later =
-        differ (always (bytes processed) p t 100 _ later hands-processed ∙ sym (always (bytes failed) p t 100 _ later hands-failed))
-
-    stays : DoesNothing step → (max : ℕ) (cs : List Call) → bytesAfter fresh step max cs ≡ fresh max
-    unfolding bytesAfter
-    stays never max [] = refl
-    stays never max (c ∷ cs) = never (bytesAfter fresh step max cs) c ∙ stays never max cs
+        w .they-differ
+        (ap (λ (x : ℕ × List ℕ). x .0)
+        (always (bytesBy fresh step (w .run)) p t both _ _ later hands-these ∙ sym (always (bytesBy fresh step (w .other)) p t both _ _ later hands-those)))
 
     table-must-hand-over : DoesNothing step → ⊥
     table-must-hand-over never =
-        let e = stays never (w .max) (w .calls processed) ∙ sym (stays never (w .max) (w .calls failed)) in
-        let same-reply = handed (sym hands-processed ∙ ap (λ b. step b (toCollect p t 100) .0) e ∙ hands-failed) in
-        differ (cc)
+        let e = stays never (fresh (w .run .max)) (w .run .calls) ∙ ap fresh (w .one-max) ∙ sym (stays never (fresh (w .other .max)) (w .other .calls)) in
+        w .they-differ (same-done (handed (sym hands-these ∙ ap (λ (b : List ℕ). step b (toCollect p t both) .0) e ∙ hands-those)))
 
   commands-not-made-up : (n k : ℕ) → (n ≡ k → ⊥) → HandsOver fresh step n k → ⊥
-  unfolding historyOf gather placing
+  unfolding historyOf bytesAfter gather placing neverAnew
   commands-not-made-up n k other w =
-      let h = historyOf fresh step (w .run .max) (w .run .calls) in
-      let call = toCollect (w .program) (w .ticket) (w .room) in
-      let now : step (bytesAfter fresh step (w .run .max) (w .run .calls)) call .0 ∷ h ≡ collected (w .program) (w .ticket) (w .room) (done (w .reply)) ∷ h = ap (λ e. e ∷ h) (w .given) in
-      let y = meets .reply-is-yours (w .run .max) (w .run .low) (w .run .high) (call ∷ w .run .calls) [] h (w .program) (w .ticket) (w .room) (w .reply) now in
+      let h = historyBy fresh step (w .run) in
+      let call = toCollect (w .program) (w .ticket) (w .output) in
+      let r : Run = record { max = w .run .max; low = w .run .low; high = w .run .high; calls = call ∷ w .run .calls; kept = w .run .kept } in
+      let now : historyBy fresh step r ≡ collected (w .program) (w .ticket) (w .output) (done (w .length-given)) (w .exit) ∷ h = ap (λ (e : Event). e ∷ h) (w .given) in
+      let y = serves r .reply-is-yours (w .program) (w .ticket) (w .length-given) (w .output) (w .exit) [] h now in
       let p = gather-append (placing (w .ticket)) (w .later) (placed (w .program) n (done (w .number, w .ticket)) ∷ w .earlier) in
       let q : placings (w .ticket) (w .later) ++ ((w .number, w .program, n) ∷ placings (w .ticket) (w .earlier)) ≡ (y .number, w .program, length (y .answers)) ∷ [] =
       sym (ap (placings (w .ticket)) (w .was-placed) ∙ p ∙ rw (eq-eqb (w .ticket) (w .ticket) refl)) ∙ y .one-placing in
@@ -191,8 +263,7 @@ module _ (fresh : ℕ → List ℕ) (step : Step) (meets : Demand3 fresh step) w
 
   commands-not-held-back : (answers : List Answer) → HoldsBack fresh step answers → ⊥
   commands-not-held-back answers w =
-      refused-not-done
-      (handed (sym (w .kept) ∙ whole-is-there (w .run .max) (w .run .low) (w .run .high) (w .run .calls) (w .program) (w .ticket) (w .room) answers (w .whole) (w .enough)))
+      refused-not-done (handed (sym (w .kept) ∙ whole-is-there (w .run) (w .program) (w .ticket) answers (w .output) (w .whole) (w .enough)))
 
 table-must-do : (step : Step) → Demand3 freshBytes step → DoesNothing step → PlacesByRows step → ⊥
 unfolding historyOf bytesAfter gather
@@ -200,14 +271,16 @@ table-must-do step meets never rows =
     let r = rows (freshBytes 2) 1 1 in
     let e : step (freshBytes 2) (toPlace 1 1) .0 ≡ placed 1 1 (done (0, 1)) =
     r .2 ∙ ap (placed 1 1) (sym (place-exactly (freshBytes 2) 1 1 .1 _ (r .1)) ∙ places-first) in
-    meets .number-is-held 2 (omega arith) (omega arith) placing-one [] [] 1 1 0 1 1 1 1 (ap (λ x. x ∷ []) e) refl
-    (ap (λ b. step b (toPlace 1 1) .0) (never (freshBytes 2) (toPlace 1 1)) ∙ e)
+    meets 2 (omega arith) (omega arith) placing-one kept-one .number-is-held 1 1 0 1 [] [] (ap (λ (x : Event). x ∷ []) e) refl 1 1 1
+    (ap (λ (b : List ℕ). step b (toPlace 1 1) .0) (never (freshBytes 2) (toPlace 1 1)) ∙ e)
 
 pub refuted : Refuted
 refuted =
     record {
       reader-must-take = reader-must-take;
       reader-must-look = reader-must-look;
+      statement-must-be-read = statement-must-be-read;
+      statement-must-look = statement-must-look;
       place-must-take = place-must-take;
       take-up-must-give = take-up-must-give;
       collect-must-give = collect-must-give;

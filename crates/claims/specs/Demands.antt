@@ -1,18 +1,18 @@
 -- What is claimed: the user's three demands, each a record whose fields are its claims, under the sentences that they say. `proofs/Demands` gives one
 -- of each. The words are those that the contracts of the public calls cite (docs/CALLS.md); that a call ends, for all bytes and numbers, and meets its
 -- contract, is what the prover shows of every function. Assumes nothing.
-use Prim.Native.Nat.{ℕ, _+_, _≤_, _<_}
+use Prim.Native.Nat.{ℕ, _+_, _-_, _^_, _≤_, _<_}
 use mathlib.Core.Path.{_≡_}
-use mathlib.Core.Bool.{true, false, cond}
+use mathlib.Core.Bool.{Bool, true, false}
 use mathlib.Core.List.{List, [], _∷_, _++_}
 use mathlib.Core.Logic.{_↔_, _⊎_}
-use lib.Dec.{leb}
+use lib.IntN.{natAbs}
 use lib.ListN.{length, getD}
-use Rattle.counts.specs.Limits.{fileBytes, commands}
-use Rattle.counts.specs.Refusals.{fileTooLong, tooFewPlaces, noToken, unexpected, notReal, tooManyStatements, tooLittleRoom, outOfRange, unsound}
+use Rattle.counts.specs.Limits.{fileBytes, commands, sessions}
+use Rattle.counts.specs.Refusals.{fileTooLong, tooFewPlaces, noToken, unexpected, notReal, tooManyStatements, unsound}
 use Rattle.counts.specs.Result.{Result, refused, done}
 use Rattle.field.specs.Part.{part, put}
-use Rattle.decimal.specs.Digits.{plainWidth}
+use Rattle.decimal.specs.Digits.{value, plainWidth}
 use Rattle.session_name.specs.Name as name
 use Rattle.session_name.specs.declared.Kind.{Kind}
 use Rattle.record.specs.Record.{Content, permitted, recordBytes, fixedLength}
@@ -20,51 +20,57 @@ use Rattle.record.specs.Reading as reading
 use Rattle.record.specs.Reading.{recordRead, contentOf, withText}
 use Rattle.record.specs.Writing as writing
 use Rattle.record.specs.declared.Record.{Record}
-use Rattle.grammar.specs.Productions.{Placed, Begins}
-use Rattle.grammar.specs.Reading.{Last, Answer as Reading}
+use Rattle.grammar.specs.Statement.{Statement}
+use Rattle.grammar.specs.Productions.{Placed, File, Begins}
+use Rattle.grammar.specs.Reading.{Answer as Reading}
 use Rattle.grammar.specs.Rows.{Three, FourToken, FourEnd, Five, Six}
-use Rattle.item.specs.Tokens.{Tokens, line}
-use Rattle.item.proofs.Spelled.{InFile}
+use Rattle.token.specs.Token.{WholeString, isTextAt, contentAt, tokenAt, nextToken}
+use Rattle.token.specs.declared.Token.the-variants.{Number, Text}
+use Rattle.number.specs.Number.{Numeral, signedOf, numberOf}
+use Rattle.item.specs.Tokens.{line}
+use Rattle.item.specs.Numbers.{NumberFrom}
+use Rattle.item.specs.Files.{InFile}
+use Rattle.statement.specs.declared.Statement.{Statement as StatementRead}
+use Rattle.meaning.specs.Paper.{paperStatement}
 use Rattle.job.specs.Job.{readJob, counted, filled, jobSays}
-use Rattle.job.specs.Statement.{Tiled, readStatement, statementSays}
+use Rattle.job.specs.Statement.{placed as placedAt, Tiled, readStatement, statementSays}
 use Rattle.job_claims.specs.Verdict.{Verdict, Taken, Crowded}
-use Rattle.job_claims.specs.Rows.{One, OneThree, OneFourToken, OneFourEnd, OneFive}
-use Rattle.job_claims.proofs.Statements.{ends}
-use Rattle.sessions.specs.History.{Call, toPlace, toCollect, Event, placed, collected, accepted, collections, step as stepOf}
-use Rattle.sessions.specs.Owed.{Yours}
-use Rattle.sessions.specs.Table.{fresh, records}
+use Rattle.job_claims.specs.Rows.{One}
+use Rattle.sessions.specs.History.{Event, placed, answered, collected, collectedAs, accepted, collections}
+use Rattle.sessions.specs.Owed.{ifRoom, owed, Yours}
+use Rattle.sessions.specs.Table.{fresh, place, takeUp, answer, collect, numbered, records}
 use Rattle.sessions.specs.declared.Answer.{Answer}
 use Rattle.table_layout.specs.Layout.{entryAt, answeredAt, handAt, number}
 use Rattle.table_sound.specs.Bytes.{abs, soundBytes}
-use Rattle.session_table.specs.Calls.{making, madeBytes, placing, placedBytes, takingUp, takenBytes, answering, answeredBytes, inHand, collecting, collectedBytes, collectedOut}
+use Rattle.session_table.specs.Calls.{Beyond, making, madeBytes, placing, placedBytes, takingUp, takenBytes, answering, answeredBytes, inHand, collecting, collectedBytes, collectedOut}
 use Rattle.session_table.specs.Collect.{Collects}
 use Rattle.session_table.specs.Paper.{paperMade, paperPlaced, paperTakenUp, paperAnswered}
 use Rattle.session_table.specs.declared.Collected.{Collected}
-use Rattle.session_table.proofs.Untouched.{Beyond}
-use Rattle.session_histories.specs.Runs.{stepBytes, refusedWith}
+use Rattle.session_histories.specs.Runs.{Call, toPlace, toCollect, Step, stepBytes, makesAnew, bytesAfter, historyOf, neverAnew, refusedWith, Refuses}
 use Rattle.claims.specs.Exactly.{Exactly, Obeys, OneResult}
 use Rattle.claims.specs.NameRows.{ReadNameRow, WriteNameRow}
 use Rattle.claims.specs.RecordRows.{ReadRow, WriteRow}
+use Rattle.claims.specs.StatementRows.{StatementRow}
 use Rattle.claims.specs.TableRows.{MakeRow, PlaceRow, TakeUpRow, AnswerRow, CollectRow}
-use Rattle.claims.specs.Histories.{Step, Always, Refuses}
 
 -- ---- Demand 1: "Every public call ends with a defined answer for all bytes and numbers. It tests its own arguments and the table it is lent. A refusal
 -- comes exactly where 01 says, gives its number and, for a file, its place, and leaves all lent memory as it found it."
 
 pub record Demand1 : Type 0 where
   -- each call's answers are exactly those of its rows, in 01's order, and a refusal leaves what was lent
-  pub read-name : (max : ℕ) (bytes : List ℕ) → Exactly (name.nameRead max bytes) (ReadNameRow max bytes)
-  pub write-name : (max n : ℕ) (kind : Kind) (out : List ℕ)
+  pub reads-name : (max : ℕ) (bytes : List ℕ) → Exactly (name.nameRead max bytes) (ReadNameRow max bytes)
+  pub writes-name : (max n : ℕ) (kind : Kind) (out : List ℕ)
       → Obeys (WriteNameRow max n (length out)) out (name.written max n out, name.writtenBytes max n kind out)
-  pub read-record : (bytes : List ℕ) → Exactly (withText bytes (recordRead commands bytes)) (ReadRow commands bytes)
-  pub write-record : (c : Content) (out : List ℕ)
+  pub reads-record : (bytes : List ℕ) → Exactly (withText bytes (recordRead commands bytes)) (ReadRow commands bytes)
+  pub writes-record : (c : Content) (out : List ℕ)
       → Obeys (WriteRow commands c (length out)) out (writing.written commands c out, writing.writtenBytes commands c out)
-  pub read-job : (file offsets : List ℕ) → let x = readJob file (length offsets) in Obeys (Verdict file (length offsets)) offsets (x, filled x offsets)
-  pub make : (b : List ℕ) (max : ℕ) → Obeys (MakeRow b max) b (making b max, madeBytes b max)
-  pub place : (b : List ℕ) (p n : ℕ) → Obeys (PlaceRow b (abs b) p n) b (placing b p n, placedBytes b p n)
-  pub take-up : (b : List ℕ) → Obeys (TakeUpRow b (abs b)) b (takingUp b, takenBytes b)
-  pub answer : (b : List ℕ) (t c : ℕ) (a : Answer) → Obeys (AnswerRow b (abs b) t c a) b (answering b t c a, answeredBytes b t c a)
-  pub collect : (b : List ℕ) (p t : ℕ) (out : List ℕ)
+  pub reads-job : (file offsets : List ℕ) → let x = readJob file (length offsets) in Obeys (Verdict file (length offsets)) offsets (x, filled x offsets)
+  pub reads-statement : (file : List ℕ) (at : ℕ) → Exactly (readStatement file at) (StatementRow file at)
+  pub makes : (b : List ℕ) (max : ℕ) → Obeys (MakeRow b max) b (making b max, madeBytes b max)
+  pub places : (b : List ℕ) (p n : ℕ) → Obeys (PlaceRow b (abs b) p n) b (placing b p n, placedBytes b p n)
+  pub takes-up : (b : List ℕ) → Obeys (TakeUpRow b (abs b)) b (takingUp b, takenBytes b)
+  pub answers : (b : List ℕ) (t c : ℕ) (a : Answer) → Obeys (AnswerRow b (abs b) t c a) b (answering b t c a, answeredBytes b t c a)
+  pub collects : (b : List ℕ) (p t : ℕ) (out : List ℕ)
       → Obeys {M = List ℕ × List ℕ} (CollectRow b (abs b) p t (length out)) (b, out)
       (collecting b p t (length out), (collectedBytes b p t (length out), collectedOut b p t out))
   -- "Each public call's contract determines the returned answer and all memory lent to it, refusals included"
@@ -83,7 +89,12 @@ pub record Demand1 : Type 0 where
   -- "A fresh table has no session, last ticket 0, nothing in hand, and 0 comes first in the turn."
   pub makes-fresh : (b : List ℕ) (max : ℕ) → making b max ≡ done tt → abs (madeBytes b max) ≡ fresh max
   -- a call on a sound table leaves what 01 says of the table without bytes, and a sound table
-  pub leaves : (b : List ℕ) (c : Call) → soundBytes b ≡ true → (abs (stepBytes b c .1) ≡ stepOf (abs b) c .1) × (soundBytes (stepBytes b c .1) ≡ true)
+  pub place-leaves : (b : List ℕ) (p n : ℕ) → soundBytes b ≡ true → abs (placedBytes b p n) ≡ place (abs b) p n .1
+  pub take-up-leaves : (b : List ℕ) → soundBytes b ≡ true → abs (takenBytes b) ≡ takeUp (abs b) .1
+  pub answer-leaves : (b : List ℕ) (t c : ℕ) (a : Answer) → soundBytes b ≡ true → abs (answeredBytes b t c a) ≡ answer (abs b) t c a .1
+  pub collect-leaves : (b : List ℕ) (p t : ℕ) (out : List ℕ) → soundBytes b ≡ true
+      → abs (collectedBytes b p t (length out)) ≡ collect (abs b) p t (length out) .1
+  pub leaves-sound : (b : List ℕ) (c : Call) → soundBytes b ≡ true → makesAnew c ≡ false → soundBytes (stepBytes b c .1) ≡ true
   -- "On success, places beyond those written stay.": a name, a record, a reply ("all records in order") stands at the start of the output
   pub name-written : (max n k : ℕ) (kind : Kind) (out : List ℕ) → name.written max n out ≡ done k → name.writtenBytes max n kind out ≡ put out 0 (name.nameOf n kind)
   pub record-written : (c : Content) (out : List ℕ) (k : ℕ) → writing.written commands c out ≡ done k → writing.writtenBytes commands c out ≡ put out 0 (recordBytes c)
@@ -108,8 +119,14 @@ pub record Demand2 : Type 0 where
   pub verdict : Reads λ file offsets. let x = readJob file (length offsets) in (counted x, filled x offsets)
   -- "taken when, and only when ..": `Taken` has the offsets of the statements that the grammar gives
   pub taken : (s : List ℕ) (room : ℕ) (os : List ℕ) → readJob s room ≡ done os ↔ Taken s room os
-  -- "Each statement is read on its own from the place where it begins."
-  pub tiled : (s : List ℕ) (room : ℕ) (os : List ℕ) → readJob s room ≡ done os → Tiled s 0 os
+  -- "and its reading is the one the grammar gives": the statements that the productions give, each "read on its own from the place where it begins";
+  -- there is one such list
+  pub statements : (s : List ℕ) (room : ℕ) (os : List ℕ) → readJob s room ≡ done os → (ys : List Statement) → File (line s .tokens) os ys ↔ Tiled s 0 os ys
+  pub one-reading : (s : List ℕ) (room : ℕ) (os : List ℕ) → readJob s room ≡ done os → (xs ys : List Statement) → File (line s .tokens) os xs
+      → File (line s .tokens) os ys → xs ≡ ys
+  -- a statement is what the tokens from the offset on, up to and including their first `;`, read as: the last row of the statement call
+  pub reading : (s : List ℕ) (at : ℕ) (x : StatementRead) (o e : ℕ)
+      → readStatement s at ≡ done (placedAt x o e) ↔ (length s ≤ fileBytes) × (at ≤ length s) × One s at (paperStatement x) o e
   -- "a break is named by its leftmost place": "tested for 1, then from the left; the leftmost place decides, and at one place 3 goes before 6, 6 before
   -- 5, 5 before 4. Then 2."
   pub one : (s : List ℕ) (room p : ℕ) → readJob s room ≡ refused fileTooLong p ↔ (fileBytes < length s) × p ≡ 0
@@ -123,20 +140,20 @@ pub record Demand2 : Type 0 where
   pub end-is-last : (s : List ℕ) (p : ℕ) → FourEnd (line s .tokens) (line s .last) p → p ≡ length s
   -- 4 speaks of what "legal" files have: what may stand by its tokens does stand in a file
   pub in-file : (a : List Placed) → Begins a ↔ InFile a
-  -- the statement call "judges only the bytes from the given offset on, as if a statement of any kind began there, and stops after its `;`; 1, then 11
-  -- for an offset past the file's length, then 3, 5 and 4"; ts are the tokens from the offset on, and z ends them
-  pub statement-read : (s : List ℕ) (at : ℕ) (ts : List Placed) (z : Last) → Tokens s at ts z → (e : ℕ)
-      → ends (readStatement s at) ≡ done e ↔ (length s ≤ fileBytes) × (at ≤ length s) × One s at e
-  pub statement-one : (s : List ℕ) (at : ℕ) (ts : List Placed) (z : Last) → Tokens s at ts z → (p : ℕ)
-      → readStatement s at ≡ refused fileTooLong p ↔ (fileBytes < length s) × p ≡ 0
-  pub statement-eleven : (s : List ℕ) (at : ℕ) (ts : List Placed) (z : Last) → Tokens s at ts z → (p : ℕ)
-      → readStatement s at ≡ refused outOfRange p ↔ (length s ≤ fileBytes) × (length s < at) × p ≡ 0
-  pub statement-three : (s : List ℕ) (at : ℕ) (ts : List Placed) (z : Last) → Tokens s at ts z → (p : ℕ)
-      → readStatement s at ≡ refused noToken p ↔ (length s ≤ fileBytes) × (at ≤ length s) × OneThree ts z p
-  pub statement-five : (s : List ℕ) (at : ℕ) (ts : List Placed) (z : Last) → Tokens s at ts z → (p : ℕ)
-      → readStatement s at ≡ refused notReal p ↔ (length s ≤ fileBytes) × (at ≤ length s) × OneFive ts p
-  pub statement-four : (s : List ℕ) (at : ℕ) (ts : List Placed) (z : Last) → Tokens s at ts z → (p : ℕ)
-      → readStatement s at ≡ refused unexpected p ↔ (length s ≤ fileBytes) × (at ≤ length s) × (OneFourToken ts p ⊎ OneFourEnd ts z p)
+  -- the paper's value of a statement loses nothing
+  pub one-meaning : (x y : StatementRead) → paperStatement x ≡ paperStatement y → x ≡ y
+  -- "A number is read as a signed whole number of at most 16 digits with the count of digits after the point. `-0` reads as 0.": number tokens stand
+  -- exactly where 01's numbers do, and read as their digits say
+  pub number-token : (s : List ℕ) (i a b : ℕ) → tokenAt s i ≡ Number a b ↔ ((a ≡ i) × NumberFrom s a b)
+  pub number-reads : (bs : List ℕ) (minus : Bool) (w f : List ℕ) → Numeral bs minus w f
+      → numberOf bs ≡ record { mantissa = signedOf minus (value (w ++ f)); scale = length f }
+  pub number-is-small : (s : List ℕ) (i a b : ℕ) → nextToken s i ≡ Number a b → let n = numberOf (part s a (b - a)) in
+      (natAbs (n .mantissa) < 10 ^ 16) × (n .scale ≤ 15)
+  pub minus-zero : (bs w f : List ℕ) → Numeral bs false w f → value (w ++ f) ≡ 0 → numberOf (45 ∷ bs) ≡ numberOf bs
+  -- "The text of a quoted string is shown as that part of the file between its quotes." String tokens stand exactly where whole strings do.
+  pub whole-string : (s : List ℕ) (i : ℕ) (c : List ℕ) → WholeString s i c ↔ ((isTextAt s i ≡ true) × (contentAt s i ≡ c))
+  pub string-token : (s : List ℕ) (i a b : ℕ)
+      → tokenAt s i ≡ Text a b ↔ ((isTextAt s i ≡ true) × (a ≡ i) × (b ≡ i + length (contentAt s i) + 2))
   -- "Records written and read come back the same, both ways round.": any permitted record, its text included, and any bytes that are one
   pub write-then-read : (c : Content) (out : List ℕ) → permitted commands c ≡ true → let n = length (recordBytes c) in n ≤ length out
       → (writing.written commands c out ≡ done n)
@@ -151,27 +168,45 @@ pub record Demand2 : Type 0 where
   pub name-read-then-write : (max n : ℕ) (kind : Kind) (bytes out : List ℕ) → name.nameRead max bytes ≡ done (n, kind) → 12 ≤ length out
       → (name.written max n out ≡ done 12) × (part (name.writtenBytes max n kind out) 0 12 ≡ bytes)
 
--- ---- Demand 3, of a table in any bytes. `h ≡ later ++ (e ∷ earlier)` is a history in which e happened, with what came after and before.
+-- ---- Demand 3: "From a fresh table, after any sequence of calls by up to eight programs and one machine:" of any way to answer a table's calls, with
+-- `fresh` for what is made and `step` for what a call answers and leaves. Lists of calls and events have the newest first.
 
--- "From a fresh table, after any sequence of calls by up to eight programs and one machine:"
-pub record Demand3 (fresh : ℕ → List ℕ) (step : Step) : Type 0 where
-  -- "each reply collected under a ticket holds one record per command of the request that got that ticket, in order, with exactly the outcome, date
-  -- and time accepted for it"
-  pub reply-is-yours : Always fresh step λ b h. (later earlier : List Event) (p t room : ℕ) (reply : List ℕ)
-      → h ≡ later ++ (collected p t room (done reply) ∷ earlier) → Yours p t reply earlier
-  -- "once complete it is there for its owner until collected", and where there is too little room 8 is given
-  pub reply-is-there : Always fresh step λ b h. (later earlier : List Event) (p n s t room : ℕ) → h ≡ later ++ (placed p n (done (s, t)) ∷ earlier)
-      → length (accepted t later) ≡ n → collections t later ≡ [] → let reply = records (accepted t later) in
-      step b (toCollect p t room) .0 ≡ collected p t room (cond (leb (length reply) room) (done reply) (refused tooLittleRoom 0))
-  -- until then it stays what it is: nothing more is accepted under its ticket
-  pub reply-stays : Always fresh step λ b h. (newer older earlier : List Event) (p n s t : ℕ) → h ≡ (newer ++ older) ++ (placed p n (done (s, t)) ∷ earlier)
-      → length (accepted t older) ≡ n → accepted t (newer ++ older) ≡ accepted t older
-  -- "a collected ticket is never honoured again"
-  pub never-again : Always fresh step λ b h. (later earlier : List Event) (p t room : ℕ) (reply : List ℕ)
-      → h ≡ later ++ (collected p t room (done reply) ∷ earlier) → Refuses step b t
-  -- "A number is taken from its placing until its collection"
-  pub number-is-held : Always fresh step λ b h. (later earlier : List Event) (p n s t q m u : ℕ) → h ≡ later ++ (placed p n (done (s, t)) ∷ earlier)
-      → collections t later ≡ [] → step b (toPlace q m) .0 ≡ placed q m (done (s, u)) → ⊥
+-- The event e is in the history h: what came after it, and what came before.
+abbrev pub Happened : List Event → Event → List Event → List Event → Type 0
+Happened h e later earlier = h ≡ later ++ (e ∷ earlier)
+
+-- Of the bytes b and the history h that some calls have led to.
+pub record Serves (step : Step) (b : List ℕ) (h : List Event) : Type 0 where
   -- "these are always sound, so 13 is never given there"
-  pub always-sound : Always fresh step λ b h. soundBytes b ≡ true
-  pub never-13 : Always fresh step λ b h. (c : Call) → refusedWith unsound (step b c .0) ≡ false
+  pub always-sound : soundBytes b ≡ true
+  pub never-13 : (c : Call) → refusedWith unsound (step b c .0) ≡ false
+  -- "each reply collected under a ticket holds one record per command of the request that got that ticket, in order, with exactly the
+  -- outcome, date and time accepted for it"
+  pub reply-is-yours : (p t n : ℕ) (out exit : List ℕ) (later earlier : List Event) → Happened h (collected p t out (done n) exit) later earlier
+      → Yours p t out n exit earlier
+  -- Nothing but the history decides what a collection answers.
+  pub collect-answers-what-is-owed : (p t : ℕ) (out : List ℕ) → step b (toCollect p t out) .0 ≡ collectedAs p t out (owed h p t (length out))
+  -- The answers of a ticket are accepted in the order 1, 2, ..
+  pub answers-in-order : (t : ℕ) → (l : List Answer) × (accepted t h ≡ numbered 1 l)
+  -- so that with the last command each was answered
+  pub each-is-answered : (p n s t : ℕ) (later earlier : List Event) → Happened h (placed p n (done (s, t))) later earlier
+      → (a : Answer) (newer older : List Event) → Happened later (answered t n a (done tt)) newer older → length (accepted t later) ≡ n
+  -- "once complete it is there for its owner until collected": the last command was answered and nothing was collected under t
+  pub reply-is-there : (p n s t : ℕ) (later earlier : List Event) → Happened h (placed p n (done (s, t))) later earlier
+      → (a : Answer) (newer older : List Event) → Happened later (answered t n a (done tt)) newer older → collections t later ≡ []
+      → (out : List ℕ) → step b (toCollect p t out) .0 ≡ collectedAs p t out (ifRoom (records (accepted t later)) (length out))
+  -- and it stays what it is
+  pub reply-stays : (p n s t : ℕ) (later earlier : List Event) → Happened h (placed p n (done (s, t))) later earlier
+      → (newer older : List Event) → later ≡ newer ++ older → length (accepted t older) ≡ n → accepted t later ≡ accepted t older
+  -- "a collected ticket is never honoured again"
+  pub never-again : (p t n : ℕ) (out exit : List ℕ) (later earlier : List Event) → Happened h (collected p t out (done n) exit) later earlier
+      → Refuses step b t
+  -- "A number is taken from its placing until its collection"
+  pub number-is-held : (p n s t : ℕ) (later earlier : List Event) → Happened h (placed p n (done (s, t))) later earlier → collections t later ≡ []
+      → (q m u : ℕ) → step b (toPlace q m) .0 ≡ placed q m (done (s, u)) → ⊥
+
+-- for every MaxSessions and any calls, refused ones included, that do not make the table anew
+abbrev pub Demand3 : (ℕ → List ℕ) → Step → Type 0
+Demand3 fresh step =
+    (max : ℕ) → 1 ≤ max → max ≤ sessions → (cs : List Call) → neverAnew cs ≡ true
+    → Serves step (bytesAfter (fresh max) step cs) (historyOf (fresh max) step cs)

@@ -3,6 +3,6 @@ pub mod Exactly
 pub mod NameRows
 pub mod RecordRows
 pub mod TableRows
-pub mod Histories
+pub mod StatementRows
 pub mod Demands
 pub mod StandIns

@@ -6,15 +6,16 @@ use mathlib.Core.List.{List, [], _∷_, _++_}
 use lib.ListN.{length}
 use Rattle.counts.specs.Limits.{sessions}
 use Rattle.counts.specs.Result.{Result, refused, done}
-use Rattle.record.specs.declared.Outcome.the-variants.{Processed, Error}
-use Rattle.sessions.specs.History.{Call, toPlace, toCollect, Event, placed, collected, accepted}
+use Rattle.sessions.specs.History.{Event, placed, answered, collected, written, accepted, collections}
 use Rattle.sessions.specs.Table.{numbered, records}
 use Rattle.sessions.specs.declared.Answer.{Answer}
 use Rattle.session_table.specs.Calls.{freshBytes}
-use Rattle.session_histories.specs.Runs.{stepBytes}
+use Rattle.session_histories.specs.Runs.{Call, toPlace, toCollect, Step, stepBytes, bytesAfter, historyOf, neverAnew}
+use Rattle.statement.specs.declared.Statement.{Statement}
+use Rattle.job.specs.declared.StatementAt.{StatementAt}
 use Rattle.table_sound.specs.Bytes.{abs}
+use Rattle.claims.specs.StatementRows.{StatementRow}
 use Rattle.claims.specs.TableRows.{PlaceRow, TakeUpRow, CollectRow}
-use Rattle.claims.specs.Histories.{Step, bytesAfter, historyOf, Request}
 use Rattle.claims.specs.Demands.{Reader, Reads, Demand3}
 
 -- refused, with whatever number and place
@@ -46,28 +47,46 @@ CollectRefuses f = (b : List ℕ) (p t room : ℕ) → IsRefused (f b p t room .
 
 -- ---- tables: `fresh` makes one, and `step` answers a call and leaves bytes
 
--- two answers with different records
-abbrev pub processed : Answer
-processed = record { outcome = Processed; date = 20240430; time = 235959 }
+-- In the history h a placing by program p gave ticket t for as many commands as there are answers; these were accepted since for commands 1, 2, ..
+-- in order, the last command's among them; and nothing was collected.
+pub record Request (h : List Event) (p t : ℕ) (answers : List Answer) : Type 0 where
+  pub number : ℕ
+  pub later : List Event
+  pub earlier : List Event
+  pub was-placed : h ≡ later ++ (placed p (length answers) (done (number, t)) ∷ earlier)
+  pub so-far : accepted t later ≡ numbered 1 answers
+  pub last : Answer
+  pub newer : List Event
+  pub older : List Event
+  pub last-answered : later ≡ newer ++ (answered t (length answers) last (done tt) ∷ older)
+  pub not-collected : collections t later ≡ []
 
-abbrev pub failed : Answer
-failed = record { outcome = Error 6 16; date = 20240430; time = 235959 }
-
--- It says that it accepts: after some calls program p's request of one command is answered with `processed`, and after others with `failed`.
-pub record SaysAccepted (fresh : ℕ → List ℕ) (step : Step) (p t : ℕ) : Type 0 where
-  pub max : ℕ
-  pub low : 1 ≤ max
-  pub high : max ≤ sessions
-  pub calls : Answer → List Call
-  pub so : Request (historyOf fresh step max (calls processed)) p 1 t (processed ∷ [])
-  pub or-so : Request (historyOf fresh step max (calls failed)) p 1 t (failed ∷ [])
-
--- some calls on a fresh table
+-- some calls on a fresh table, none making it anew
 pub record Run : Type 0 where
   pub max : ℕ
   pub low : 1 ≤ max
   pub high : max ≤ sessions
   pub calls : List Call
+  pub kept : neverAnew calls ≡ true
+
+module _ (fresh : ℕ → List ℕ) (step : Step) where
+  abbrev pub bytesBy : Run → List ℕ
+  bytesBy r = bytesAfter (fresh (r .max)) step (r .calls)
+
+  abbrev pub historyBy : Run → List Event
+  historyBy r = historyOf (fresh (r .max)) step (r .calls)
+
+-- It says that it accepts: after some calls program p's request under ticket t is answered whole with these answers, and after others with those, and
+-- their records differ in length.
+pub record SaysAccepted (fresh : ℕ → List ℕ) (step : Step) (p t : ℕ) : Type 0 where
+  pub these : List Answer
+  pub those : List Answer
+  pub run : Run
+  pub other : Run
+  pub one-max : run .max ≡ other .max
+  pub so : Request (historyBy fresh step run) p t these
+  pub or-so : Request (historyBy fresh step other) p t those
+  pub they-differ : length (records (numbered 1 these)) ≡ length (records (numbered 1 those)) → ⊥
 
 -- "A table that does nothing"
 abbrev pub DoesNothing : Step → Type 0
@@ -85,14 +104,17 @@ pub record Invented (fresh : ℕ → List ℕ) (step : Step) : Type 0 where
   pub program : ℕ
   pub ticket : ℕ
   pub a-later-one : 1 < ticket
-  pub room : ℕ
-  pub reply : List ℕ
-  pub was-collected : historyOf fresh step (run .max) (run .calls) ≡ later ++ (collected program ticket room (done reply) ∷ earlier)
-  pub not-so : reply ≡ records (accepted ticket earlier) → ⊥
+  pub output : List ℕ
+  pub length-given : ℕ
+  pub exit : List ℕ
+  pub was-collected : historyBy fresh step run ≡ later ++ (collected program ticket output (done length-given) exit ∷ earlier)
+  pub not-so : exit ≡ written output (records (accepted ticket earlier)) → ⊥
 
--- or all that it hands over under later tickets is made up from what the caller shows
-abbrev pub Invents : Step → (ℕ → ℕ → ℕ → List ℕ) → Type 0
-Invents step invented = (b : List ℕ) (p t room : ℕ) (r : List ℕ) → 1 < t → step b (toCollect p t room) .0 ≡ collected p t room (done r) → r ≡ invented p t room
+-- or all that it hands over under later tickets, length and output, is made up from what the caller shows
+abbrev pub Invents : Step → (ℕ → ℕ → List ℕ → ℕ × List ℕ) → Type 0
+Invents step invented =
+    (b : List ℕ) (p t : ℕ) (out : List ℕ) (n : ℕ) (exit : List ℕ) → 1 < t → step b (toCollect p t out) .0 ≡ collected p t out (done n) exit
+    → _≡_ {A = ℕ × List ℕ} (n, exit) (invented p t out)
 
 -- "a made-up command count": after some calls a request of n commands, of which k are answered, is handed over
 pub record HandsOver (fresh : ℕ → List ℕ) (step : Step) (n k : ℕ) : Type 0 where
@@ -102,23 +124,25 @@ pub record HandsOver (fresh : ℕ → List ℕ) (step : Step) (n k : ℕ) : Type
   pub program : ℕ
   pub number : ℕ
   pub ticket : ℕ
-  pub was-placed : historyOf fresh step (run .max) (run .calls) ≡ later ++ (placed program n (done (number, ticket)) ∷ earlier)
-  pub k-answered : length (accepted ticket (historyOf fresh step (run .max) (run .calls))) ≡ k
-  pub room : ℕ
-  pub reply : List ℕ
-  pub given : step (bytesAfter fresh step (run .max) (run .calls)) (toCollect program ticket room) .0 ≡ collected program ticket room (done reply)
+  pub was-placed : historyBy fresh step run ≡ later ++ (placed program n (done (number, ticket)) ∷ earlier)
+  pub k-answered : length (accepted ticket (historyBy fresh step run)) ≡ k
+  pub output : List ℕ
+  pub length-given : ℕ
+  pub exit : List ℕ
+  pub given : step (bytesBy fresh step run) (toCollect program ticket output) .0 ≡ collected program ticket output (done length-given) exit
 
 -- or one that is answered whole is held back
 pub record HoldsBack (fresh : ℕ → List ℕ) (step : Step) (answers : List Answer) : Type 0 where
   pub run : Run
   pub program : ℕ
   pub ticket : ℕ
-  pub whole : Request (historyOf fresh step (run .max) (run .calls)) program (length answers) ticket answers
-  pub room : ℕ
-  pub enough : length (records (numbered 1 answers)) ≤ room
+  pub whole : Request (historyBy fresh step run) program ticket answers
+  pub output : List ℕ
+  pub enough : length (records (numbered 1 answers)) ≤ length output
   pub number : ℕ
   pub place : ℕ
-  pub kept : step (bytesAfter fresh step (run .max) (run .calls)) (toCollect program ticket room) .0 ≡ collected program ticket room (refused number place)
+  pub exit : List ℕ
+  pub kept : step (bytesBy fresh step run) (toCollect program ticket output) .0 ≡ collected program ticket output (refused number place) exit
 
 -- ---- readers of job files
 
@@ -134,12 +158,29 @@ OneReading f given = (file offsets : List ℕ) → f file offsets ≡ given offs
 abbrev pub MakesUpCount : Reader → (ℕ → List ℕ → ℕ) → Type 0
 MakesUpCount f madeUp = (file offsets : List ℕ) (n : ℕ) → f file offsets .0 ≡ done n → n ≡ madeUp (length file) offsets
 
+-- ---- readers of one statement: file, offset
+
+abbrev pub StatementReader : Type 0
+StatementReader = (file : List ℕ) (at : ℕ) → Result StatementAt
+
+abbrev pub ReadsStatements : StatementReader → Type 0
+ReadsStatements f = (file : List ℕ) (at : ℕ) → StatementRow file at (f file at)
+
+abbrev pub StatementRefuses : StatementReader → Type 0
+StatementRefuses f = (file : List ℕ) (at : ℕ) → IsRefused (f file at)
+
+-- where it reads a statement, it is always the same one, wherever it stands
+abbrev pub OneStatement : StatementReader → Statement → Type 0
+OneStatement f x = (file : List ℕ) (at : ℕ) (y : StatementAt) → f file at ≡ done y → y .statement ≡ x
+
 -- ---- no stand-in keeps the demand
 
 pub record Refuted : Type 0 where
   -- "A reader that refuses everything, or gives one constant reading, breaks demand 2."
   pub reader-must-take : (f : Reader) → Reads f → ReaderRefuses f → ⊥
   pub reader-must-look : (f : Reader) → Reads f → (given : List ℕ → Result ℕ × List ℕ) → OneReading f given → ⊥
+  pub statement-must-be-read : (f : StatementReader) → ReadsStatements f → StatementRefuses f → ⊥
+  pub statement-must-look : (f : StatementReader) → ReadsStatements f → (x : Statement) → OneStatement f x → ⊥
   -- "A place, take-up or collect call that always refuses breaks demand 1, since each refusal comes only under its stated condition."
   pub place-must-take : (f : PlaceCall) → ((b : List ℕ) (p n : ℕ) → PlaceRow b (abs b) p n (f b p n .0)) → PlaceRefuses f → ⊥
   pub take-up-must-give : (f : TakeUpCall) → ((b : List ℕ) → TakeUpRow b (abs b) (f b .0)) → TakeUpRefuses f → ⊥
@@ -150,7 +191,7 @@ pub record Refuted : Type 0 where
   pub table-must-do : (step : Step) → Demand3 freshBytes step → DoesNothing step → PlacesByRows step → ⊥
   -- "One that serves the first session and invents later ones breaks demand 3, which speaks of every reply."
   pub later-is-accepted : (fresh : ℕ → List ℕ) (step : Step) → Demand3 fresh step → Invented fresh step → ⊥
-  pub later-not-invented : (fresh : ℕ → List ℕ) (step : Step) → Demand3 fresh step → (invented : ℕ → ℕ → ℕ → List ℕ) → Invents step invented
+  pub later-not-invented : (fresh : ℕ → List ℕ) (step : Step) → Demand3 fresh step → (invented : ℕ → ℕ → List ℕ → ℕ × List ℕ) → Invents step invented
       → (p t : ℕ) → 1 < t → SaysAccepted fresh step p t → ⊥
   -- "A made-up statement count breaks the grammar's reading"
   pub statements-not-made-up : (f : Reader) → Reads f → (madeUp : ℕ → List ℕ → ℕ) → MakesUpCount f madeUp → ⊥
@@ -163,15 +204,17 @@ pub record Refuted : Type 0 where
 pub record Exhibited : Type 0 where
   pub a-reader-refuses : (f : Reader) × ReaderRefuses f
   pub a-reader-gives-one : (f : Reader) × (given : List ℕ → Result ℕ × List ℕ) × OneReading f given
+  pub a-statement-reader-refuses : (f : StatementReader) × StatementRefuses f
+  pub a-statement-reader-gives-one : (f : StatementReader) × (x : Statement) × OneStatement f x
   pub a-place-refuses : (f : PlaceCall) × PlaceRefuses f
   pub a-take-up-refuses : (f : TakeUpCall) × TakeUpRefuses f
   pub a-collect-refuses : (f : CollectCall) × CollectRefuses f
   pub a-table-does-nothing : (fresh : ℕ → List ℕ) × (step : Step) × DoesNothing step × SaysAccepted fresh step 1 1
   pub a-table-only-answers : (step : Step) × DoesNothing step × PlacesByRows step
   pub a-table-invented : (step : Step) × Invented freshBytes step
-  pub a-table-invents : (step : Step) × (invented : ℕ → ℕ → ℕ → List ℕ) × Invents step invented × SaysAccepted freshBytes step 2 2
+  pub a-table-invents : (step : Step) × (invented : ℕ → ℕ → List ℕ → ℕ × List ℕ) × Invents step invented × SaysAccepted freshBytes step 2 2
   pub a-reader-makes-up : (f : Reader) × (madeUp : ℕ → List ℕ → ℕ) × MakesUpCount f madeUp
   pub a-table-makes-up : (step : Step) × HandsOver freshBytes step 2 1
-  -- while the table itself says that it accepts too, and keeps demand 3
+  pub a-table-holds-back : (step : Step) × (answers : List Answer) × HoldsBack freshBytes step answers
+  -- saying that it accepts makes no stand-in: the table that keeps demand 3 says so too
   pub this-table-accepts : SaysAccepted freshBytes stepBytes 2 2
-  pub a-table-holds-back : (step : Step) × HoldsBack freshBytes step (processed ∷ [])

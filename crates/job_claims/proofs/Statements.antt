@@ -59,7 +59,7 @@ ends-refused : (a : Result StatementAt) (n p : ℕ) → ends a ≡ refused n p �
 ends-refused (done x) n p e = let z : _≡_ {A = ℕ} 0 1 = cc in absurd (omega arith)
 ends-refused (refused m q) n p e = let a : m ≡ n = cc in let b : q ≡ p = cc in rw (a, b)
 
-no-statement : WholeOne [] → ⊥
+pub no-statement : WholeOne [] → ⊥
 no-statement w = true≢false (sym (ap (λ (q : Point). isPoint q done-point) (any-walks (w .1))))
 
 module _ (s : List ℕ) (at : ℕ) where

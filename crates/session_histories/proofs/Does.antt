@@ -74,7 +74,7 @@ module _ (b : List ℕ) (e : soundBytes b ≡ true) where
         ∙ place-leaves b e s p n (number b lastAt + 1) (omega (arith, w .below, sound-table b e .max-high)) (rp .0) (rp .1) (rn .1) (omega (arith, w .room)) refl
         ∙ rw (w .range, w .found, lt-ltb (number b lastAt) ticketMost (w .room))
 
-    place-does : abs (placedBytes b p n) ≡ place (abs b) p n .1
+    pub place-does : abs (placedBytes b p n) ≡ place (abs b) p n .1
     unfolding placedBytes
     place-does = go (ends (placing b p n))
       where
@@ -101,7 +101,7 @@ module _ (b : List ℕ) (e : soundBytes b ≡ true) where
       ∙ take-leaves b e s (w .stands-there .below)
       ∙ rw (hand-empty b (number b handAt) refl z, next-found b ok z i refl)
 
-  take-does : abs (takenBytes b) ≡ takeUp (abs b) .1
+  pub take-does : abs (takenBytes b) ≡ takeUp (abs b) .1
   unfolding takenBytes
   take-does = go (ends (takingUp b))
     where
@@ -130,7 +130,7 @@ module _ (b : List ℕ) (e : soundBytes b ≡ true) where
         let k = waits b e (inHand b) (hand-waits b e (inHand b) (hand-full b (number b handAt) refl n)) in
         ap abs (sym (answering-leaves b t c a w (number b handAt) refl)) ∙ answer-leaves b e (inHand b) k a (w .dated) (w .in-range) ∙ stored w
 
-    answer-does : abs (answeredBytes b t c a) ≡ answer (abs b) t c a .1
+    pub answer-does : abs (answeredBytes b t c a) ≡ answer (abs b) t c a .1
     unfolding answeredBytes
     answer-does = go (ends (answering b t c a))
       where
@@ -176,7 +176,7 @@ module _ (b : List ℕ) (e : soundBytes b ≡ true) where
     refusal-event (refused k i) q = q
     refusal-event (done y) q = q
 
-    collect-does : abs (collectedBytes b p t room) ≡ collect (abs b) p t room .1
+    pub collect-does : abs (collectedBytes b p t room) ≡ collect (abs b) p t room .1
     unfolding collectedBytes
     collect-does = go (ends (collecting b p t room))
       where
@@ -192,7 +192,7 @@ module _ (b : List ℕ) (e : soundBytes b ≡ true) where
     unfolding making
     making-refused = rw q
 
-    making-keeps : madeBytes b max ≡ b
+    pub making-keeps : madeBytes b max ≡ b
     unfolding madeBytes
     making-keeps = rw making-refused
 

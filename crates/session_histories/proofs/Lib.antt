@@ -4,4 +4,3 @@ pub mod Stored
 pub mod Fresh
 pub mod Does
 pub mod Same
-pub mod Claims

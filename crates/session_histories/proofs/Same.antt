@@ -91,7 +91,7 @@ module _ (b : List ℕ) (e : soundBytes b ≡ true) where
   not-13 (toCollect p t out) = ap (refusedWith unsound) (collected-is b e p t out) ∙ not-given p t out (collect (abs b) p t (length out) .0) (not-collected (abs b) p t (length out))
 
 -- the tail of calls that make nothing anew
-anew-parts : (c : Call) (cs : List Call) → neverAnew (c ∷ cs) ≡ true → (makesAnew c ≡ false) × (neverAnew cs ≡ true)
+pub anew-parts : (c : Call) (cs : List Call) → neverAnew (c ∷ cs) ≡ true → (makesAnew c ≡ false) × (neverAnew cs ≡ true)
 unfolding neverAnew
 anew-parts c cs q = let k = halves (not (makesAnew c)) (neverAnew cs) q in (not-true (makesAnew c) (k .0), k .1)
 

@@ -10,11 +10,7 @@ use Rattle.field.proofs.Numbers.{getD-putW}
 use Rattle.sessions.specs.declared.Answer.{Answer}
 use Rattle.table_layout.specs.Layout.{entryAt, answeredAt, handAt, number, putNumber, headOf, putEntry}
 use Rattle.table_slot.specs.Slots.{slotAt, putSlot}
-use Rattle.session_table.specs.Calls.{after, inHand, answering, answeredAs, answeredBytes}
-
--- a byte outside the k numbers from at on
-abbrev pub Beyond : ℕ → ℕ → ℕ → Type 0
-Beyond i at k = (i < 4 * at) ⊎ (4 * (at + k) ≤ i)
+use Rattle.session_table.specs.Calls.{Beyond, after, inHand, answering, answeredAs, answeredBytes}
 
 byte-stays : (b : List ℕ) (at v i : ℕ) → Beyond i at 1 → getD (putNumber b at v) i 0 ≡ getD b i 0
 unfolding putNumber

@@ -1,7 +1,8 @@
 -- What each call of the table answers on lent bytes, and the bytes at its exit. Assumes nothing.
-use Prim.Native.Nat.{ℕ, _+_, _-_}
+use Prim.Native.Nat.{ℕ, _+_, _-_, _*_, _≤_, _<_}
 use mathlib.Core.Bool.{Bool, false, cond}
 use mathlib.Core.List.{List}
+use mathlib.Core.Logic.{_⊎_}
 use lib.Dec.{eqb}
 use lib.ListN.{length, replicate}
 use Rattle.counts.specs.Limits.{sessions}
@@ -75,6 +76,10 @@ namesHand σ t c (at s) = names (σ .slot s) t c
 -- "Answering changes one slot's entry and the in-hand mark, nothing else."
 unfoldable pub answering : List ℕ → ℕ → ℕ → Answer → Result (Unit {0})
 answering b t c a = ifSound b (answer (abs b) t c a .0)
+
+-- a byte i outside the k numbers of four bytes that stand from the number `from` on
+abbrev pub Beyond : ℕ → ℕ → ℕ → Type 0
+Beyond i from k = (i < 4 * from) ⊎ (4 * (from + k) ≤ i)
 
 abbrev pub inHand : List ℕ → ℕ
 inHand b = number b handAt - 1

@@ -18,10 +18,10 @@ use Rattle.session_table.specs.Calls.{after, making, freshBytes, madeBytes}
 use Rattle.table_layout.specs.Layout.{tableBytes}
 use Rattle.table_search.proofs.Sounds.{sound-size}
 use Rattle.table_sound.specs.Bytes.{abs, soundBytes}
-use Rattle.session_histories.specs.Demand3.{Demand3}
+use Rattle.claims.specs.Demands.{Demand3}
 use Rattle.session_histories.specs.Runs.{toMake, toPlace, toTakeUp, toAnswer, stepBytes, bytesAfter, historyOf, makesAnew, Refuses}
 use Rattle.session_histories.proofs.Does.{placing-is, taking-is, answering-is, collected-is}
 use Rattle.session_histories.proofs.Same.{sound-after, run-after, not-13}
 
 -- what an event's answer is
 placed-same : {p n : ℕ} {r r′ : Result (ℕ × ℕ)} → placed p n r ≡ placed p n r′ → r ≡ r′
