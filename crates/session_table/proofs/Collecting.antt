@@ -9,7 +9,7 @@ use lib.ListN.{length}
 use borrow.Author.Tests.{le-leb, lt-leb, leb-true}
 use Rattle.counts.specs.Limits.{commands, programs}
 use Rattle.counts.specs.Refusals.{notTheOne, outOfRange, tooLittleRoom, unsound, refusal}
-use Rattle.counts.specs.Result.{done}
+use Rattle.counts.specs.Result.{refused, done}
 use Rattle.counts.specs.declared.Refusal.{Refusal}
 use Rattle.field.specs.Part.{put, Wrote}
 use Rattle.sessions.proofs.Laws.{must-find, is-ready, refused≢done}
@@ -27,6 +27,7 @@ use Rattle.table_sound.specs.Bytes.{slotOf, abs, soundBytes}
 use Rattle.session_table.specs.Calls.{only, verdict, collecting, readyIn, collectedAt, collectedBytes, collectedOut}
 use Rattle.session_table.specs.Collect.{Collects}
 use Rattle.session_table.specs.Paper.{paperCollected}
+use Rattle.session_table.specs.declared.Collected.{Collected}
 use Rattle.session_table.specs.declared.Collected.the-variants.{Written, Refused as NotCollected}
 use Rattle.session_table.proofs.Verdicts.{passed, passed-both, is-done, is-refused, keeps-bytes}
 
@@ -150,3 +151,14 @@ collects-is b p t out w s found bs f e q v r =
       table = r ∙ collect-leaves b p t (length out) w s found;
       output = rw (← d) (v .bytes ∙ ap (put out 0) q);
     }
+
+-- what a call that collects says and leaves: the reply of that program and ticket, or the refusal and no byte changed
+module _ {b : List ℕ} {p t : ℕ} {out : List ℕ} {r : Collected} {b′ out′ : List ℕ} (c : Collects b p t out r b′ out′) where
+  pub collected-is-given : (bs : List ℕ) → collecting b p t (length out) ≡ done bs
+      → (paperCollected r ≡ done (length bs)) × (b′ ≡ collectedAt b (readyIn b p t)) × (out′ ≡ put out 0 bs)
+  unfolding collectedBytes collectedOut
+  collected-is-given bs e = (rw e at (c .answer), rw e at (c .table), rw e at (c .output))
+
+  pub refused-collect-changes-nothing : (k i : ℕ) → collecting b p t (length out) ≡ refused k i → (paperCollected r ≡ refused k i) × (b′ ≡ b) × (out′ ≡ out)
+  unfolding collectedBytes collectedOut
+  refused-collect-changes-nothing k i e = (rw e at (c .answer), rw e at (c .table), rw e at (c .output))

@@ -1,15 +1,20 @@
 -- Answering changes one slot's entry and what is in hand, and no other byte. Assumes nothing.
 use Prim.Native.Nat.{ℕ, _+_, _*_, _≤_, _<_}
-use mathlib.Core.Path.{_≡_, refl, _∙_}
+use mathlib.Core.Path.{_≡_, refl, _∙_, ap, sym}
 use mathlib.Core.Logic.{_⊎_, inl, inr, ⊎-elim}
 use mathlib.Core.List.{List}
 use native.Mathlib.Omega.{arith}
-use lib.ListN.{getD}
+use lib.ListN.{length, getD}
+use Rattle.counts.specs.Limits.{sessions}
 use Rattle.counts.specs.Result.{Result, refused, done}
 use Rattle.field.proofs.Numbers.{getD-putW}
 use Rattle.sessions.specs.declared.Answer.{Answer}
-use Rattle.table_layout.specs.Layout.{entryAt, answeredAt, handAt, number, putNumber, headOf, putEntry}
-use Rattle.table_slot.specs.Slots.{slotAt, putSlot}
+use Rattle.sessions.specs.Table.{lowest}
+use Rattle.table_layout.specs.Layout.{entryAt, headAt, answeredAt, handAt, number, putNumber, headOf, entryOf, putEntry}
+use Rattle.table_slot.specs.Slots.{withEntry, slotAt, putSlot}
+use Rattle.table_slot.specs.declared.Slot.{Slot}
+use Rattle.table_sound.proofs.Slots.{slot-held, answers-held}
+use Rattle.table_sound.specs.Bytes.{slotOf}
 use Rattle.session_table.specs.Calls.{Beyond, after, inHand, answering, answeredAs, answeredBytes}
 
 byte-stays : (b : List ℕ) (at v i : ℕ) → Beyond i at 1 → getD (putNumber b at v) i 0 ≡ getD b i 0
@@ -50,3 +55,18 @@ module _ (b : List ℕ) (t c : ℕ) (a : Answer) where
       go : (r : Result (Unit {0})) → getD (after r b (λ x. answeredAs b a)) i 0 ≡ getD b i 0
       go (refused k p) = refl
       go (done x) = stored-stays i o n h
+
+-- the slot that is taken out has the entry of its session's lowest unanswered command
+pub slot-has-the-lowest : (b : List ℕ) (s : ℕ) → s < sessions → (number b (headAt s) ≡ 0 → ⊥) → slotAt b s .entry ≡ entryOf b s (lowest (slotOf b s))
+unfolding slotAt headOf
+slot-has-the-lowest b s l n =
+    sym (ap (λ k. entryOf b s (k + 1)) (ap (λ x. length (x .answers)) (slot-held b s l n) ∙ answers-held b s))
+
+-- a slot with an answer stored in it is the same session's, and has one answer more
+pub stored-keeps : (x : Slot) (a : Answer)
+    → (withEntry x a .head .program ≡ x .head .program)
+    × (withEntry x a .head .count ≡ x .head .count)
+    × (withEntry x a .head .ticket ≡ x .head .ticket)
+    × (withEntry x a .head .answered ≡ x .head .answered + 1)
+    × (withEntry x a .entry ≡ a)
+stored-keeps x a = (refl, refl, refl, refl, refl)

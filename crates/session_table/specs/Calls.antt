@@ -26,7 +26,8 @@ abbrev pub after : {A : Type 0} → Result A → List ℕ → (A → List ℕ) �
 after (refused number place) b f = b
 after (done x) b f = f x
 
--- Whether a result is a refusal, and which: what the first half of a call finds. Its number is 0 for none, and none has a place.
+-- Whether a result is a refusal, and which: what the first half of a call finds. Its number is 0 for none, and none has a place. These two
+-- need not be believed: they bind only the halves of a call.
 abbrev pub only : {A : Type 0} → Result A → Result (Unit {0})
 only (refused number place) = refused number place
 only (done x) = done tt

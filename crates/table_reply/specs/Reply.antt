@@ -1,4 +1,5 @@
--- The records of a session's first n answers, in order, as they stand in a table's bytes. Assumes nothing.
+-- The records of a session's first n answers, in order, as they stand in a table's bytes. Need not be believed: it binds only functions
+-- below the table's calls, which answer `reply` of the table without bytes. Assumes nothing.
 use Prim.Native.Nat.{ℕ, _+_}
 use mathlib.Core.List.{List}
 use Rattle.sessions.specs.Find.{first}

@@ -1,4 +1,5 @@
--- What a search asks of lent bytes: a table's size, MaxSessions in range and the turn's mark below it. Assumes nothing.
+-- What a search asks of lent bytes: a table's size, MaxSessions in range and the turn's mark below it. Need not be believed: it binds only
+-- the searches, and sound bytes are so. Assumes nothing.
 use Prim.Native.Nat.{ℕ, _+_, _-_, _≤_, _<_}
 use mathlib.Core.Path.{_≡_}
 use mathlib.Core.Bool.{cond}

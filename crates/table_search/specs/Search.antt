@@ -1,4 +1,5 @@
--- What the searches of a table's bytes find. Need not be believed: what the calls answer is said without it. Assumes nothing.
+-- What the searches of a table's bytes find. Need not be believed: it binds only the searches, and what the calls answer is said without
+-- it. Assumes nothing.
 use Prim.Native.Nat.{ℕ}
 use mathlib.Core.Bool.{Bool, true, false}
 use mathlib.Core.List.{List}
