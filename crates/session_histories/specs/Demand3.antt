@@ -4,11 +4,15 @@ use mathlib.Core.Path.{_≡_}
 use mathlib.Core.Bool.{true, false}
 use mathlib.Core.List.{List, [], _∷_, _++_}
 use lib.ListN.{length}
-use Rattle.counts.specs.Limits.{sessions}
+use Rattle.counts.specs.Limits.{commands, sessions}
 use Rattle.counts.specs.Refusals.{unsound}
 use Rattle.counts.specs.Result.{done}
+use Rattle.field.specs.Part.{part}
+use Rattle.record.specs.Reading.{recordRead, withText}
+use Rattle.record.specs.Record.{content}
 use Rattle.sessions.specs.History.{Event, placed, answered, collected, collectedAs, accepted, collections}
 use Rattle.sessions.specs.Owed.{ifRoom, owed, Yours}
+use Rattle.sessions.specs.Records.{recordOf}
 use Rattle.sessions.specs.Table.{numbered, records}
 use Rattle.sessions.specs.declared.Answer.{Answer}
 use Rattle.table_sound.specs.Bytes.{soundBytes}
@@ -17,6 +21,10 @@ use Rattle.session_histories.specs.Runs.{Call, toPlace, toCollect, Step,
 -- The event e is in the history h: what came after it, and what came before.
 abbrev pub Happened : List Event → Event → List Event → List Event → Type 0
 Happened h e later earlier = h ≡ later ++ (e ∷ earlier)
+
+-- These bytes read as the record of command c with what a says, "text empty".
+abbrev pub Says : List ℕ → ℕ → Answer → Type 0
+Says bytes c a = withText bytes (recordRead commands bytes) ≡ done (content c (a .outcome) [] (a .date) (a .time))
 
 -- Of the bytes b and the history h that some calls have led to.
 pub record Serves (step : Step) (b : List ℕ) (h : List Event) : Type 0 where
@@ -27,6 +35,9 @@ pub record Serves (step : Step) (b : List ℕ) (h : List Event) : Type 0 where
   -- outcome, date and time accepted for it"
   pub reply-is-yours : (p t n : ℕ) (out exit : List ℕ) (later earlier : List Event) → Happened h (collected p t out (done n) exit) later earlier
       → Yours p t out n exit earlier
+  -- where the record of an accepted answer stands after those of the answers before, and reads as its command, outcome, date and time
+  pub record-in-place : (t c : ℕ) (a : Answer) (later earlier : List Event) → Happened h (answered t c a (done tt)) later earlier
+      → Says (part (records (accepted t h)) (length (records (accepted t earlier))) (length (recordOf c a))) c a
   -- Nothing but the history decides what a collection answers.
   pub collect-answers-what-is-owed : (p t : ℕ) (out : List ℕ) → step b (toCollect p t out) .0 ≡ collectedAs p t out (owed h p t (length out))
   -- The answers of a ticket are accepted in the order 1, 2, ..
