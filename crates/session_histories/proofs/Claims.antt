@@ -14,11 +14,13 @@ use Rattle.field.specs.Part.{part}
 use Rattle.record.proofs.RoundTrip.{read-exactly}
 use Rattle.record.specs.Record.{content, isOutcome, isText, inRange, permitted}
 use Rattle.scan.specs.Run.{run, runEnd}
+use Rattle.sessions.proofs.Agrees.{agrees}
 use Rattle.sessions.proofs.Answers.{Refuses as RefusesWithout}
 use Rattle.sessions.proofs.Claims as without-bytes
 use Rattle.sessions.proofs.Laws.{halves, records-append}
 use Rattle.sessions.proofs.Past.{accepted-at}
-use Rattle.sessions.specs.History.{itself, other, Event, made, placed, tookUp, answered, collectedAs, accepted}
+use Rattle.sessions.specs.History.{itself, other, Event, made, placed, tookUp, answered, collected, written, collectedAs, accepted, collections}
+use Rattle.sessions.specs.Owed.{ifRoom}
 use Rattle.sessions.specs.Records.{isDated, recordOf}
 use Rattle.sessions.specs.Sound.{isReal}
 use Rattle.sessions.specs.Table.{within, records, place, takeUp, answer}
@@ -27,9 +29,10 @@ use Rattle.session_table.specs.Calls.{making, freshBytes, madeBytes}
 use Rattle.table_layout.specs.Layout.{tableBytes}
 use Rattle.table_search.proofs.Sounds.{sound-size}
 use Rattle.table_sound.specs.Bytes.{abs, soundBytes}
-use Rattle.session_histories.specs.Demand3.{Says, Demand3}
-use Rattle.session_histories.specs.Runs.{Call, toMake, toPlace, toTakeUp, toAnswer, toCollect, stepBytes, bytesAfter, historyOf, makesAnew, wasMade, Refuses}
-use Rattle.session_histories.proofs.Does.{placing-is, taking-is, answering-is, collected-is}
+use Rattle.session_histories.specs.Demand3.{Happened, Says, Serves, Demand3}
+use Rattle.session_histories.specs.Runs.{Call, toMake, toPlace, toTakeUp, toAnswer, toCollect, Step, stepBytes, bytesAfter, historyOf, makesAnew, wasMade, Refuses}
+use Rattle.session_histories.proofs.Does.{placing-is, taking-is, take-does, answering-is, collected-is, keeps}
+use Rattle.session_histories.proofs.Progress.{taken-is-answered, unanswered-is-given}
 use Rattle.session_histories.proofs.Same.{sound-after, run-after, not-13}
 
 -- what an event's answer is
@@ -40,6 +43,10 @@ took-up-same : {r r′ : Result (ℕ × ℕ × ℕ)} → tookUp r ≡ tookUp r�
 took-up-same q = cc
 
 -- each call's event by the table without bytes
+answered-by : (b : List ℕ) → soundBytes b ≡ true → (t c : ℕ) (a : Answer) → stepBytes b (toAnswer t c a) .0 ≡ answered t c a (answer (abs b) t c a .0)
+unfolding stepBytes
+answered-by b e t c a = ap (answered t c a) (answering-is b e t c a)
+
 module _ (b : List ℕ) (e : soundBytes b ≡ true) where
   placed-is : (p n : ℕ) → stepBytes b (toPlace p n) .0 ≡ placed p n (place (abs b) p n .0)
   unfolding stepBytes
@@ -49,14 +56,24 @@ module _ (b : List ℕ) (e : soundBytes b ≡ true) where
   unfolding stepBytes
   took-up-is = ap tookUp (taking-is b e)
 
-  answered-is : (t c : ℕ) (a : Answer) → stepBytes b (toAnswer t c a) .0 ≡ answered t c a (answer (abs b) t c a .0)
+  -- what is taken up may be answered
+  taken-holds : abs (stepBytes b toTakeUp .1) ≡ takeUp (abs b) .1
   unfolding stepBytes
-  answered-is t c a = ap (answered t c a) (answering-is b e t c a)
+  taken-holds = take-does b e
+
+  taken-answered : (s t c : ℕ) (a : Answer) → stepBytes b toTakeUp .0 ≡ tookUp (done (s, t, c)) → isReal a ≡ true
+      → stepBytes (stepBytes b toTakeUp .1) (toAnswer t c a) .0 ≡ answered t c a (done tt)
+  taken-answered s t c a q real =
+      let b′ = stepBytes b toTakeUp .1 in
+      let e′ = keeps b e toTakeUp refl in
+      answered-by b′ e′ t c a
+      ∙ ap (answered t c a)
+      (ap (λ σ. answer σ t c a .0) taken-holds ∙ taken-is-answered (abs b) s t c a (took-up-same (sym took-up-is ∙ q)) real)
 
   refuses-bytes : (t : ℕ) → RefusesWithout (abs b) t → Refuses stepBytes b t
   refuses-bytes t w =
       record {
-        no-answer = λ c a. answered-is t c a ∙ ap (answered t c a) (w .no-answer c a);
+        no-answer = λ c a. answered-by b e t c a ∙ ap (answered t c a) (w .no-answer c a);
         no-collect = λ p out r. collected-is b e p t out ∙ ap (collectedAs p t out) (w .no-collect p (length out) r);
         no-place = λ p n s q. w .no-place p n s (placed-same (sym (placed-is p n) ∙ q));
         no-take-up = λ s c q. w .no-take-up s c (took-up-same (sym took-up-is ∙ q));
@@ -121,8 +138,23 @@ demand-3 max low high cs kept =
           ∙ ap (collectedAs p t out) (without-bytes.reply-is-there max low high (abs b) h calls later earlier p n s t e newer older a tt q (length out) f);
       reply-stays = λ p n s t later earlier e newer older q l.
           without-bytes.reply-stays max low high (abs b) h calls later earlier p n s t e newer older q l;
+      is-given = λ t s p n e l.
+          let x = unanswered-is-given (abs b) h (agrees max low high calls) t s p n e l in
+          (x .0, took-up-is b sound ∙ ap tookUp (x .1));
+      is-accepted = taken-answered b sound;
       never-again = λ p t n out exit later earlier e.
           refuses-bytes b sound t (without-bytes.never-again max low high (abs b) h calls later earlier p t out n exit e);
       number-is-held = λ p n s t later earlier e f q m u g.
           without-bytes.number-is-held max low high (abs b) h calls later earlier p n s t e q m u f (placed-same (sym (placed-is b sound q m) ∙ g));
     }
+
+-- A complete reply for which there is room is written from the start of the lent output on, and all beyond it stays.
+pub reply-is-written : (step : Step) (b : List ℕ) (h : List Event) → Serves step b h
+    → (p n s t : ℕ) (later earlier : List Event) → Happened h (placed p n (done (s, t))) later earlier
+    → (a : Answer) (newer older : List Event) → Happened later (answered t n a (done tt)) newer older → collections t later ≡ []
+    → (out : List ℕ) → length (records (accepted t later)) ≤ length out
+    → step b (toCollect p t out) .0 ≡ collected p t out (done (length (records (accepted t later)))) (written out (records (accepted t later)))
+reply-is-written step b h w p n s t later earlier e a newer older q f out l =
+    let r = records (accepted t later) in
+    let fits : ifRoom r (length out) ≡ done r = rw (le-leb (length r) (length out) l) in
+    w .reply-is-there p n s t later earlier e a newer older q f out ∙ ap (collectedAs p t out) fits

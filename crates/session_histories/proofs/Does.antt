@@ -101,7 +101,7 @@ module _ (b : List ℕ) (e : soundBytes b ≡ true) where
       ∙ take-leaves b e s (w .stands-there .below)
       ∙ rw (hand-empty b (number b handAt) refl z, next-found b ok z i refl)
 
-  take-does : abs (takenBytes b) ≡ takeUp (abs b) .1
+  pub take-does : abs (takenBytes b) ≡ takeUp (abs b) .1
   unfolding takenBytes
   take-does = go (ends (takingUp b))
     where

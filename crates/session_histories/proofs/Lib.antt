@@ -4,4 +4,5 @@ pub mod Stored
 pub mod Fresh
 pub mod Does
 pub mod Same
+pub mod Progress
 pub mod Claims

@@ -1,5 +1,5 @@
 -- DEMAND 3, of any way to answer a table's calls: what must hold after any calls from a fresh table on. Assumes nothing.
-use Prim.Native.Nat.{ℕ, _≤_}
+use Prim.Native.Nat.{ℕ, _≤_, _<_}
 use mathlib.Core.Path.{_≡_}
 use mathlib.Core.Bool.{true, false}
 use mathlib.Core.List.{List, [], _∷_, _++_}
@@ -10,13 +10,14 @@ use Rattle.counts.specs.Result.{done}
 use Rattle.field.specs.Part.{part}
 use Rattle.record.specs.Reading.{recordRead, withText}
 use Rattle.record.specs.Record.{content}
-use Rattle.sessions.specs.History.{Event, placed, answered, collected, collectedAs, accepted, collections}
+use Rattle.sessions.specs.History.{Event, placed, tookUp, answered, collected, collectedAs, placings, accepted, collections}
 use Rattle.sessions.specs.Owed.{ifRoom, owed, Yours}
 use Rattle.sessions.specs.Records.{recordOf}
+use Rattle.sessions.specs.Sound.{isReal}
 use Rattle.sessions.specs.Table.{numbered, records}
 use Rattle.sessions.specs.declared.Answer.{Answer}
 use Rattle.table_sound.specs.Bytes.{soundBytes}
-use Rattle.session_histories.specs.Runs.{Call, toPlace, toCollect, Step, bytesAfter, historyOf, neverAnew, refusedWith, Refuses}
+use Rattle.session_histories.specs.Runs.{Call, toPlace, toTakeUp, toAnswer, toCollect, Step, bytesAfter, historyOf, neverAnew, refusedWith, Refuses}
 
 -- The event e is in the history h: what came after it, and what came before.
 abbrev pub Happened : List Event → Event → List Event → List Event → Type 0
@@ -52,6 +53,10 @@ pub record Serves (step : Step) (b : List ℕ) (h : List Event) : Type 0 where
   -- and it stays what it is
   pub reply-stays : (p n s t : ℕ) (later earlier : List Event) → Happened h (placed p n (done (s, t))) later earlier
       → (newer older : List Event) → later ≡ newer ++ older → length (accepted t older) ≡ n → accepted t later ≡ accepted t older
+  -- "A table that does nothing never closes a session": while a command is unanswered one is given, and its answer is accepted
+  pub is-given : (t s p n : ℕ) → placings t h ≡ (s, p, n) ∷ [] → length (accepted t h) < n → (x : ℕ × ℕ × ℕ) × (step b toTakeUp .0 ≡ tookUp (done x))
+  pub is-accepted : (s t c : ℕ) (a : Answer) → step b toTakeUp .0 ≡ tookUp (done (s, t, c)) → isReal a ≡ true
+      → step (step b toTakeUp .1) (toAnswer t c a) .0 ≡ answered t c a (done tt)
   -- "a collected ticket is never honoured again"
   pub never-again : (p t n : ℕ) (out exit : List ℕ) (later earlier : List Event) → Happened h (collected p t out (done n) exit) later earlier
       → Refuses step b t
