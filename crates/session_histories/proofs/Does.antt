@@ -20,7 +20,7 @@ use Rattle.sessions.proofs.Parts.{parts-sound}
 use Rattle.sessions.proofs.SoundKept.{sound-kept}
 use Rattle.sessions.proofs.Stays.{isRefusal, refuses, refused-stays}
 use Rattle.sessions.specs.Find.{orNone}
-use Rattle.sessions.specs.History.{itself, other, Event, placed, tookUp, answered, collected, collectedAs}
+use Rattle.sessions.specs.History.{itself, other, Event, collected, collectedAs}
 use Rattle.sessions.specs.Table.{State, within, place, placeIn, turn, takeUp, takeHand, takeNext, names, answer, answerHand, reply, collect, collectFrom, afterAnswer}
 use Rattle.sessions.specs.declared.Answer.{Answer}
 use Rattle.session_table.proofs.Answering.{Answerable, answerable, answer-hand, answer-leaves as answering-leaves}

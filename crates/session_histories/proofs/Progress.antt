@@ -1,7 +1,7 @@
 -- A session that waits is served: a command is given, and its answer is accepted. Assumes nothing.
 use Prim.Native.Nat.{ℕ, _+_, _-_, _≤_, _<_}
 use mathlib.Core.Path.{_≡_, refl, _∙_, ap, sym}
-use mathlib.Core.Bool.{true, false, false≢true}
+use mathlib.Core.Bool.{true, false≢true}
 use mathlib.Core.Logic.{⊎-elim}
 use mathlib.Core.List.{List, [], _∷_}
 use native.Mathlib.Nat.{eq-zero-or-pos}
@@ -12,7 +12,7 @@ use Rattle.counts.specs.Result.{done}
 use Rattle.record.specs.Record.{isOutcome}
 use Rattle.sessions.proofs.Agrees.{Agrees}
 use Rattle.sessions.proofs.Answers.{closed-or-waits}
-use Rattle.sessions.proofs.Laws.{Search, miss, hit, search-find, halves, refused≢done, done-same}
+use Rattle.sessions.proofs.Laws.{Search, miss, search-find, halves, refused≢done, done-same}
 use Rattle.sessions.proofs.SoundKept.{is-session}
 use Rattle.sessions.specs.Find.{Found, none, at, find}
 use Rattle.sessions.specs.History.{Event, placings, accepted}
@@ -72,6 +72,12 @@ has-turn σ s l m =
     let e : σ .mark + 1 + j ≡ s = omega arith in
     record { place = j; below = omega arith; is-it = rw (e, lt-ltb s (σ .max) l) })
     (eq-zero-or-pos (s - σ .mark))
+
+-- "beginning after the number last taken up and going round": that number comes last
+pub mark-comes-last : (σ : State) → σ .mark < σ .max → turn σ (σ .max - 1) ≡ σ .mark
+mark-comes-last σ m =
+    let e : σ .mark + 1 + (σ .max - 1) ≡ σ .max + σ .mark = omega arith in
+    rw (e, le-ltb (σ .max + σ .mark) (σ .max) (omega arith)) (omega arith)
 
 module _ (σ : State) (h : List Event) (A : Agrees σ h) where
   waits-given : (s : ℕ) → length (σ .slot s .answers) < σ .slot s .count → (x : ℕ × ℕ × ℕ) × (takeUp σ .0 ≡ done x)
