@@ -15,7 +15,7 @@ use Rattle.field.specs.Part.{part, put}
 use Rattle.decimal.specs.Digits.{value, plainWidth}
 use Rattle.session_name.specs.Name as name
 use Rattle.session_name.specs.declared.Kind.{Kind}
-use Rattle.record.specs.Record.{Content, permitted, recordBytes, fixedLength}
+use Rattle.record.specs.Record.{Content, content, permitted, recordBytes, fixedLength}
 use Rattle.record.specs.Reading as reading
 use Rattle.record.specs.Reading.{recordRead, contentOf, withText}
 use Rattle.record.specs.Writing as writing
@@ -36,7 +36,9 @@ use Rattle.job.specs.Job.{readJob, counted, filled, jobSays}
 use Rattle.job.specs.Statement.{placed as placedAt, Tiled, readStatement, statementSays}
 use Rattle.job_claims.specs.Verdict.{Verdict, Taken, Crowded}
 use Rattle.job_claims.specs.Rows.{One}
-use Rattle.sessions.specs.History.{Event, placed, answered, collected, collectedAs, accepted, collections}
+use Rattle.sessions.specs.History.{Event, placed, tookUp, answered, collected, collectedAs, placings, accepted, collections}
+use Rattle.sessions.specs.Records.{recordOf}
+use Rattle.sessions.specs.Sound.{isReal}
 use Rattle.sessions.specs.Owed.{ifRoom, owed, Yours}
 use Rattle.sessions.specs.Table.{fresh, place, takeUp, answer, collect, numbered, records}
 use Rattle.sessions.specs.declared.Answer.{Answer}
@@ -46,7 +48,7 @@ use Rattle.session_table.specs.Calls.{Beyond, making, madeBytes, placing, place
 use Rattle.session_table.specs.Collect.{Collects}
 use Rattle.session_table.specs.Paper.{paperMade, paperPlaced, paperTakenUp, paperAnswered}
 use Rattle.session_table.specs.declared.Collected.{Collected}
-use Rattle.session_histories.specs.Runs.{Call, toPlace, toCollect, Step, stepBytes, makesAnew, bytesAfter, historyOf, neverAnew, refusedWith, Refuses}
+use Rattle.session_histories.specs.Runs.{Call, toPlace, toTakeUp, toAnswer, toCollect, Step, stepBytes, makesAnew, bytesAfter, historyOf, neverAnew, refusedWith, Refuses}
 use Rattle.claims.specs.Exactly.{Exactly, Obeys, OneResult}
 use Rattle.claims.specs.NameRows.{ReadNameRow, WriteNameRow}
 use Rattle.claims.specs.RecordRows.{ReadRow, WriteRow}
@@ -175,6 +177,10 @@ pub record Demand2 : Type 0 where
 abbrev pub Happened : List Event → Event → List Event → List Event → Type 0
 Happened h e later earlier = h ≡ later ++ (e ∷ earlier)
 
+-- These bytes read as the record of command c with what a says, "text empty".
+abbrev pub Says : List ℕ → ℕ → Answer → Type 0
+Says bytes c a = withText bytes (recordRead commands bytes) ≡ done (content c (a .outcome) [] (a .date) (a .time))
+
 -- Of the bytes b and the history h that some calls have led to.
 pub record Serves (step : Step) (b : List ℕ) (h : List Event) : Type 0 where
   -- "these are always sound, so 13 is never given there"
@@ -184,6 +190,9 @@ pub record Serves (step : Step) (b : List ℕ) (h : List Event) : Type 0 where
   -- outcome, date and time accepted for it"
   pub reply-is-yours : (p t n : ℕ) (out exit : List ℕ) (later earlier : List Event) → Happened h (collected p t out (done n) exit) later earlier
       → Yours p t out n exit earlier
+  -- where the record of an accepted answer stands after those of the answers before, and reads as its command, outcome, date and time
+  pub record-in-place : (t c : ℕ) (a : Answer) (later earlier : List Event) → Happened h (answered t c a (done tt)) later earlier
+      → Says (part (records (accepted t h)) (length (records (accepted t earlier))) (length (recordOf c a))) c a
   -- Nothing but the history decides what a collection answers.
   pub collect-answers-what-is-owed : (p t : ℕ) (out : List ℕ) → step b (toCollect p t out) .0 ≡ collectedAs p t out (owed h p t (length out))
   -- The answers of a ticket are accepted in the order 1, 2, ..
@@ -198,6 +207,10 @@ pub record Serves (step : Step) (b : List ℕ) (h : List Event) : Type 0 where
   -- and it stays what it is
   pub reply-stays : (p n s t : ℕ) (later earlier : List Event) → Happened h (placed p n (done (s, t))) later earlier
       → (newer older : List Event) → later ≡ newer ++ older → length (accepted t older) ≡ n → accepted t later ≡ accepted t older
+  -- "A table that does nothing never closes a session": while a command is unanswered one is given, and its answer is accepted
+  pub is-given : (t s p n : ℕ) → placings t h ≡ (s, p, n) ∷ [] → length (accepted t h) < n → (x : ℕ × ℕ × ℕ) × (step b toTakeUp .0 ≡ tookUp (done x))
+  pub is-accepted : (s t c : ℕ) (a : Answer) → step b toTakeUp .0 ≡ tookUp (done (s, t, c)) → isReal a ≡ true
+      → step (step b toTakeUp .1) (toAnswer t c a) .0 ≡ answered t c a (done tt)
   -- "a collected ticket is never honoured again"
   pub never-again : (p t n : ℕ) (out exit : List ℕ) (later earlier : List Event) → Happened h (collected p t out (done n) exit) later earlier
       → Refuses step b t

@@ -20,7 +20,7 @@ use Rattle.sessions.proofs.Parts.{parts-sound}
 use Rattle.sessions.proofs.SoundKept.{sound-kept}
 use Rattle.sessions.proofs.Stays.{isRefusal, refuses, refused-stays}
 use Rattle.sessions.specs.Find.{orNone}
-use Rattle.sessions.specs.History.{itself, other, Event, placed, tookUp, answered, collected, collectedAs}
+use Rattle.sessions.specs.History.{itself, other, Event, collected, collectedAs}
 use Rattle.sessions.specs.Table.{State, within, place, placeIn, turn, takeUp, takeHand, takeNext, names, answer, answerHand, reply, collect, collectFrom, afterAnswer}
 use Rattle.sessions.specs.declared.Answer.{Answer}
 use Rattle.session_table.proofs.Answering.{Answerable, answerable, answer-hand, answer-leaves as answering-leaves}
@@ -196,6 +196,20 @@ module _ (b : List ℕ) (e : soundBytes b ≡ true) where
     unfolding madeBytes
     making-keeps = rw making-refused
 
+did-same : {σ τ τ′ : State} {e e′ : Event} → e ≡ e′ → τ ≡ τ′ → Did σ e′ τ′ → Did σ e τ
+did-same p q d = rw (p, q) d
+
+module _ (b : List ℕ) (e : soundBytes b ≡ true) where
+  -- one call on sound bytes is one call of the table without bytes, on what they hold
+  pub does : (c : Call) → makesAnew c ≡ false → Did (abs b) (stepBytes b c .0) (abs (stepBytes b c .1))
+  unfolding stepBytes
+  does (toMake itself max) q = rw (making-refused b e max q, making-keeps b e max q) (nothing (no-make itself max outOfRange 0))
+  does (toMake (other m) max) q = nothing (other-make m max (making m max))
+  does (toPlace p n) q = rw (placing-is b e p n, place-does b e p n) (did-place (abs b) p n)
+  does toTakeUp q = rw (taking-is b e, take-does b e) (did-take-up (abs b))
+  does (toAnswer t c a) q = rw (answering-is b e t c a, answer-does b e t c a) (did-answer (abs b) t c a)
+  does (toCollect p t out) q = did-same (collected-is b e p t out) (collect-does b e p t out) (did-collect (abs b) p t out)
+
 -- no call changes the length
 after-length : {A : Type 0} (r : Result A) (b : List ℕ) (f : A → List ℕ) → ((x : A) → length (f x) ≡ length b) → length (after r b f) ≡ length b
 after-length (refused k i) b f h = refl
@@ -216,21 +230,8 @@ step-length b e (toAnswer t c a) q = after-length (answering b t c a) b (λ r. a
 step-length b e (toCollect p t out) q =
     after-length (collecting b p t (length out)) b (λ r. collectedAt b (readyIn b p t)) (λ r. simp length-putNumber)
 
-did-same : {σ τ τ′ : State} {e e′ : Event} → e ≡ e′ → τ ≡ τ′ → Did σ e′ τ′ → Did σ e τ
-did-same p q d = rw (p, q) d
-
 module _ (b : List ℕ) (e : soundBytes b ≡ true) where
-  -- one call on sound bytes is one call of the table without bytes, on what they hold
-  pub does : (c : Call) → makesAnew c ≡ false → Did (abs b) (stepBytes b c .0) (abs (stepBytes b c .1))
-  unfolding stepBytes
-  does (toMake itself max) q = rw (making-refused b e max q, making-keeps b e max q) (nothing (no-make itself max outOfRange 0))
-  does (toMake (other m) max) q = nothing (other-make m max (making m max))
-  does (toPlace p n) q = rw (placing-is b e p n, place-does b e p n) (did-place (abs b) p n)
-  does toTakeUp q = rw (taking-is b e, take-does b e) (did-take-up (abs b))
-  does (toAnswer t c a) q = rw (answering-is b e t c a, answer-does b e t c a) (did-answer (abs b) t c a)
-  does (toCollect p t out) q = did-same (collected-is b e p t out) (collect-does b e p t out) (did-collect (abs b) p t out)
-
   -- and keeps them sound
   pub keeps : (c : Call) → makesAnew c ≡ false → soundBytes (stepBytes b c .1) ≡ true
   unfolding soundBytes
-  keeps c q = rw (step-length b e c q ∙ sound-size b e, parts-sound (abs (stepBytes b c .1)) (sound-kept (does c q) (sound-table b e)))
+  keeps c q = rw (step-length b e c q ∙ sound-size b e, parts-sound (abs (stepBytes b c .1)) (sound-kept (does b e c q) (sound-table b e)))

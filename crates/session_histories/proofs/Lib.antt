@@ -4,3 +4,4 @@ pub mod Stored
 pub mod Fresh
 pub mod Does
 pub mod Same
+pub mod Progress

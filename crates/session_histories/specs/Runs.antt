@@ -60,6 +60,16 @@ unfoldable pub neverAnew : List Call → Bool
 neverAnew [] = true
 neverAnew (c ∷ cs) = not (makesAnew c) && neverAnew cs
 
+-- Whether a call has made the table anew: what its answer says.
+abbrev pub wasMade : Event → Bool
+wasMade (made itself max (done r)) = true
+wasMade (made itself max (refused k i)) = false
+wasMade (made (other m) max r) = false
+wasMade (placed p n r) = false
+wasMade (tookUp r) = false
+wasMade (answered t c a r) = false
+wasMade (collected p t out r exit) = false
+
 -- Whether an answer is the refusal with that number. What a making of other memory is refused is not said of this table.
 abbrev pub isRefusedWith : {A : Type 0} → ℕ → Result A → Bool
 isRefusedWith k (refused number place) = eqb number k

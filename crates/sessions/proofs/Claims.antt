@@ -2,23 +2,26 @@
 -- A history has the newest event first, so `later ++ (e ∷ earlier)` is a history in which e happened, with what came after and before.
 use Prim.Native.Nat.{ℕ, suc, _+_, _≤_}
 use mathlib.Core.Path.{_≡_, refl, _∙_, ap, sym}
-use mathlib.Core.List.{List, [], _∷_, _++_, append-nil, append-assoc}
+use mathlib.Core.Bool.{true}
+use mathlib.Core.List.{List, [], _∷_, _++_, append-nil}
 use mathlib.Core.Logic.{⊎-elim}
 use native.Mathlib.Omega.{arith}
 use borrow.Author.Tests.{eq-eqb}
 use lib.ListN.{length, length-append}
-use Rattle.counts.specs.Limits.{sessions}
+use Rattle.counts.specs.Limits.{commands, sessions}
 use Rattle.counts.specs.Result.{done}
 use Rattle.sessions.specs.History.{Event, placed, answered, collected, gather, placing, placings, accepted, collection, collections}
 use Rattle.sessions.specs.Owed.{ifRoom, owed, Yours}
 use Rattle.sessions.specs.Table.{State, numbered, records, place, collect}
+use Rattle.sessions.specs.Sound.{isReal}
 use Rattle.sessions.specs.declared.Answer.{Answer}
 use Rattle.sessions.proofs.Agrees.{Agrees, agrees}
 use Rattle.sessions.proofs.Answers.{Refuses, there, not-again-number, given-new, given-once, collected-gone, closed-or-waits}
 use Rattle.sessions.proofs.Did.{Run}
 use Rattle.sessions.proofs.Laws.{nil≢mid, tail-same}
 use Rattle.sessions.proofs.Owing.{collect-owed, collect-yours, in-order}
-use Rattle.sessions.proofs.Past.{head-same, gather-append, accepted-append, moment, Collection, told}
+use Rattle.sessions.proofs.SoundKept.{is-session}
+use Rattle.sessions.proofs.Past.{head-same, gather-append, accepted-append, accepted-at, moment, Collection, told}
 
 length-zero : {A : Type 0} (l : List A) → length l ≡ 0 → l ≡ []
 length-zero [] e = refl
@@ -51,6 +54,17 @@ module _ (max : ℕ) (low : 1 ≤ max) (high : max ≤ sessions) (σ : State) (h
     reply-is-yours p t out n exit e =
         let m = moment max run later earlier (collected p t out (done n) exit) e in
         yours (agrees max low high (m .run)) (told (m .now))
+
+    -- An answer that was accepted is real, and to a command that there may be.
+    pub accepted-in-range : (t c : ℕ) (a : Answer) (r : Unit {0}) → h ≡ later ++ (answered t c a (done r) ∷ earlier)
+        → (1 ≤ c) × (c ≤ commands) × (isReal a ≡ true)
+    accepted-in-range t c a r e =
+        let m = moment max run later earlier (answered t c a (done r)) e in
+        let w = told (m .now) in
+        let ok = agrees max low high (m .run) .sound in
+        let l = ok .in-hand (w .number) (w .answers-it .in-hand) in
+        let x = is-session (m .before) ok (λ x. x .count) refl (w .number) (omega arith) in
+        (omega (arith, w .answers-it .command), omega (arith, w .answers-it .command, x .count-high), w .answers-it .real)
 
     -- "A collected ticket is never honoured again."
     pub never-again : (p t : ℕ) (out : List ℕ) (n : ℕ) (exit : List ℕ) → h ≡ later ++ (collected p t out (done n) exit ∷ earlier) → Refuses σ t
@@ -86,10 +100,7 @@ module _ (max : ℕ) (low : 1 ≤ max) (high : max ≤ sessions) (σ : State) (h
       -- Once the last command is answered each is, and nothing was accepted under the ticket since.
       module _ (newer older : List Event) (a : Answer) (r : Unit {0}) (q : later ≡ newer ++ (answered t n a (done r) ∷ older)) where
         parts : accepted t later ≡ accepted t older ++ ((n, a) ∷ accepted t newer)
-        unfolding accepted
-        parts =
-            ap (accepted t) q ∙ accepted-append t newer (answered t n a (done r) ∷ older)
-            ∙ rw (eq-eqb t t refl) (append-assoc (accepted t older) ((n, a) ∷ []) (accepted t newer))
+        parts = ap (accepted t) q ∙ accepted-at t n a r newer older
 
         pub each-is-answered : length (accepted t later) ≡ n
         each-is-answered =

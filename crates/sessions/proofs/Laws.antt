@@ -3,7 +3,7 @@ use Prim.Native.Nat.{ℕ, zero, suc, _+_, _-_, _≤_, _<_}
 use mathlib.Core.Path.{_≡_, refl, ap, sym}
 use mathlib.Core.Bool.{Bool, true, false, cond, _&&_, _||_, not, false≢true}
 use mathlib.Core.Logic.{_⊎_, inl, inr, ⊎-elim}
-use mathlib.Core.List.{List, [], _∷_, _++_}
+use mathlib.Core.List.{List, [], _∷_, _++_, append-assoc}
 use native.Mathlib.Nat.{eq-or-lt-of-le, eq-zero-or-pos, add-zero, add-suc, suc-add}
 use native.Mathlib.Omega.{arith}
 use borrow.Author.Tests.{eq-eqb, ne-eqb, eqb-true, eqb-false, leb-true, not-true}
@@ -12,7 +12,7 @@ use lib.ListN.{length}
 use Rattle.sessions.specs.Find.{Found, none, at, orElse, find, all, put}
 use Rattle.sessions.specs.declared.Answer.{Answer}
 use Rattle.counts.specs.Result.{refused, done}
-use Rattle.sessions.specs.Table.{Slot, within, lowest, names, isReady, numbered}
+use Rattle.sessions.specs.Table.{Slot, within, lowest, names, isReady, numbered, records}
 
 -- what a search found
 pub data Search (n : ℕ) (p : ℕ → Bool) : Found → Type 0 where
@@ -135,3 +135,9 @@ pub numbered-more : (k : ℕ) (l : List Answer) (a : Answer) → numbered k (l +
 unfolding numbered
 numbered-more k [] a = rw add-zero
 numbered-more k (b ∷ l) a = rw (add-suc, ← suc-add) (ap (λ (r : List (ℕ × Answer)). (k, b) ∷ r) (numbered-more (suc k) l a))
+
+-- the records of two lists, one after the other
+pub records-append : (xs ys : List (ℕ × Answer)) → records (xs ++ ys) ≡ records xs ++ records ys
+unfolding records
+records-append [] ys = refl
+records-append (x ∷ xs) ys = rw (records-append xs ys, append-assoc)

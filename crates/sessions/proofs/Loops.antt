@@ -83,7 +83,7 @@ unfolding first
 first-same zero f g h = refl
 first-same (suc n) f g h = rw (first-same n f g (λ i l. h i (omega arith)), h n (omega arith))
 
-all-real-append : (l m : List Answer) → allReal (l ++ m) ≡ (allReal l && allReal m)
+pub all-real-append : (l m : List Answer) → allReal (l ++ m) ≡ (allReal l && allReal m)
 unfolding allReal
 all-real-append [] m = refl
 all-real-append (a ∷ l) m = ap (λ r. isReal a && r) (all-real-append l m) ∙ sym (and-assoc (isReal a) (allReal l) (allReal m))

@@ -1,15 +1,16 @@
 -- A history taken apart at one of its events.
 use Prim.Native.Nat.{ℕ, _+_}
-use mathlib.Core.Path.{_≡_, refl, sym, subst}
+use mathlib.Core.Path.{_≡_, refl, _∙_, sym, subst}
 use mathlib.Core.Bool.{Bool, true, false, cond}
 use mathlib.Core.List.{List, [], _∷_, _++_, append-assoc, append-nil}
+use borrow.Author.Tests.{eq-eqb}
 use lib.Dec.{eqb}
 use lib.ListN.{length}
 use Rattle.sessions.specs.History.{Event, made, placed, tookUp, answered, collected, written, gather, accepted}
 use Rattle.sessions.specs.declared.Answer.{Answer}
 use Rattle.counts.specs.Result.{refused, done}
 use Rattle.sessions.specs.Table.{State, reply}
-use Rattle.sessions.proofs.Did.{Collects, Idle, no-make, other-make, no-place, no-take-up, again, no-answer, no-collect, Did, nothing, places, takes, answers, collects, Run, start, next}
+use Rattle.sessions.proofs.Did.{Answers, Collects, Idle, no-make, other-make, no-place, no-take-up, again, no-answer, no-collect, Did, nothing, places, takes, answers, collects, Run, start, next}
 use Rattle.sessions.proofs.Laws.{nil≢cons, tail-same}
 
 pub head-same : {A : Type 0} {x y : A} {l m : List A} → x ∷ l ≡ y ∷ m → x ≡ y
@@ -53,7 +54,18 @@ moment max (next {σ = σ} {σ′ = σ′} r d) [] earlier e q =
     }
 moment max (next r d) (x ∷ later) earlier e q = moment max r later earlier e (tail-same q)
 
--- what a placing that gave a ticket, and a collection that gave a reply, did
+-- an answer stands after those accepted before it
+pub accepted-at : (t c : ℕ) (a : Answer) (r : Unit {0}) (l h : List Event)
+    → accepted t (l ++ (answered t c a (done r) ∷ h)) ≡ accepted t h ++ ((c, a) ∷ accepted t l)
+unfolding accepted
+accepted-at t c a r l h =
+    accepted-append t l (answered t c a (done r) ∷ h) ∙ rw (eq-eqb t t refl) (append-assoc (accepted t h) ((c, a) ∷ []) (accepted t l))
+
+-- what a placing that gave a ticket, an answer that was accepted and a collection that gave a reply did
+pub record Accepted (σ : State) (t c : ℕ) (a : Answer) : Type 0 where
+  pub number : ℕ
+  pub answers-it : Answers σ number t c a
+
 pub record Collection (σ : State) (p t : ℕ) (out : List ℕ) (n : ℕ) (exit : List ℕ) : Type 0 where
   pub number : ℕ
   pub collects-it : Collects σ number p t out
@@ -65,7 +77,8 @@ Told σ (made m max r) = Unit {0}
 Told σ (placed p n (done r)) = r .1 ≡ σ .last + 1
 Told σ (placed p n (refused k i)) = Unit {0}
 Told σ (tookUp r) = Unit {0}
-Told σ (answered t c a r) = Unit {0}
+Told σ (answered t c a (done r)) = Accepted σ t c a
+Told σ (answered t c a (refused k i)) = Unit {0}
 Told σ (collected p t out (done n) exit) = Collection σ p t out n exit
 Told σ (collected p t out (refused k i) exit) = Unit {0}
 
@@ -82,5 +95,5 @@ pub told : {σ σ′ : State} {e : Event} → Did σ e σ′ → Told σ e
 told (nothing i) = told-idle i
 told (places w) = refl
 told (takes w) = tt
-told (answers w) = tt
+told (answers {s = s} w) = record { number = s; answers-it = w }
 told (collects {s = s} w) = record { number = s; collects-it = w; its-length = refl; its-output = refl }

@@ -3,17 +3,18 @@ use Prim.Native.Nat.{ℕ, _+_, _≤_, _<_}
 use mathlib.Core.Path.{_≡_, refl, ap, sym}
 use mathlib.Core.Bool.{true}
 use mathlib.Core.Logic.{⊎-elim}
-use mathlib.Core.List.{List, [], _∷_, _++_}
+use mathlib.Core.List.{List, [], _∷_}
 use native.Mathlib.Nat.{eq-zero-or-pos}
 use native.Mathlib.Omega.{arith}
 use lib.ListN.{length, length-append}
 use Rattle.sessions.specs.Find.{Found, at, put}
 use Rattle.sessions.specs.History.{Event}
 use Rattle.sessions.specs.declared.Answer.{Answer}
-use Rattle.sessions.specs.Sound.{isReal, allReal}
+use Rattle.sessions.specs.Sound.{allReal}
 use Rattle.sessions.specs.Table.{Slot, openSlot, State, fresh, newSlot, withAnswer, turn, afterPlace, afterTakeUp, afterAnswer, afterCollect}
 use Rattle.sessions.proofs.Did.{Did, nothing, places, takes, answers, collects, Places, Answers, Collects}
-use Rattle.sessions.proofs.Laws.{halves, put-all}
+use Rattle.sessions.proofs.Laws.{put-all}
+use Rattle.sessions.proofs.Loops.{all-real-append}
 use Rattle.sessions.proofs.Parts.{Session, SlotSound, open-slot, session, Sound}
 use Rattle.counts.specs.Limits.{sessions}
 
@@ -44,13 +45,6 @@ later last′ l (session w) =
       answers-few = w .answers-few;
       answers-real = w .answers-real;
     })
-
-more-real : (l : List Answer) (a : Answer) → allReal l ≡ true → isReal a ≡ true → allReal (l ++ (a ∷ [])) ≡ true
-unfolding allReal
-more-real [] a e f = rw f
-more-real (b ∷ l) a e f =
-    let h = halves (isReal b) (allReal l) e in
-    rw (h .0, more-real l a (h .1) f)
 
 abbrev Distinct : (ℕ → Slot) → Type 0
 Distinct slot = (s s′ : ℕ) → 1 ≤ slot s .ticket → slot s .ticket ≡ slot s′ .ticket → s ≡ s′
@@ -133,6 +127,7 @@ module _ (σ : State) (ok : Sound σ) where
       }
 
   answer-sound : {s t c : ℕ} {a : Answer} → Answers σ s t c a → Sound (afterAnswer σ s a)
+  unfolding allReal
   answer-sound {s} {a = a} q =
       let l = ok .in-hand s (q .in-hand) in
       let w = is-session (λ x. x .count) refl s (omega arith) in
@@ -152,8 +147,8 @@ module _ (σ : State) (ok : Sound σ) where
               ticket-low = w .ticket-low;
               ticket-most = w .ticket-most;
               ticket-high = w .ticket-high;
-              answers-few = rw length-append (omega arith);
-              answers-real = more-real (σ .slot s .answers) a (w .answers-real) (q .real);
+              answers-few = omega (arith, length-append (σ .slot s .answers) (a ∷ []));
+              answers-real = simp (all-real-append, w .answers-real, q .real);
             }))
             (λ i d. ok .slots i);
         distinct = distinct-put (σ .slot) s x (ok .distinct) (λ k i d f. d (sym (ok .distinct s i k (sym f))));

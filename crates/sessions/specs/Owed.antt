@@ -16,12 +16,11 @@ use Rattle.sessions.specs.declared.Answer.{Answer}
 abbrev pub ifRoom : List ℕ → ℕ → Result (List ℕ)
 ifRoom reply room = cond (leb (length reply) room) (done reply) (refused tooLittleRoom 0)
 
--- For a ticket placed once, by p, with every command answered and nothing collected: its records in order, if there is room.
+-- For a ticket whose placing was by p, with every command answered and nothing collected: its records in order, if there is room.
 unfoldable pub owedOf : ℕ → ℕ → List (ℕ × ℕ × ℕ) → List (ℕ × Answer) → List ℕ → Result (List ℕ)
 owedOf p room [] qs rs = refused notTheOne 0
-owedOf p room (x ∷ []) qs [] = cond (eqb (x .1) p && eqb (length qs) (x .2)) (ifRoom (records qs) room) (refused notTheOne 0)
-owedOf p room (x ∷ []) qs (r ∷ rs) = refused notTheOne 0
-owedOf p room (x ∷ y ∷ ps) qs rs = refused notTheOne 0
+owedOf p room (x ∷ ps) qs [] = cond (eqb (x .1) p && eqb (length qs) (x .2)) (ifRoom (records qs) room) (refused notTheOne 0)
+owedOf p room (x ∷ ps) qs (r ∷ rs) = refused notTheOne 0
 
 -- What program p, who shows ticket t and has that room, gets after the history h.
 unfoldable pub owed : List Event → ℕ → ℕ → ℕ → Result (List ℕ)
