@@ -50,6 +50,7 @@ use Rattle.session_table.specs.Paper.{paperMade, paperPlaced, paperTakenUp, pap
 use Rattle.session_table.specs.declared.Collected.{Collected}
 use Rattle.session_histories.specs.Runs.{Call, toPlace, toTakeUp, toAnswer, toCollect, Step, stepBytes, makesAnew, bytesAfter, historyOf, neverAnew, refusedWith, Refuses}
 use Rattle.claims.specs.Exactly.{Exactly, Obeys, OneResult}
+use Rattle.claims.specs.Fits.{Fits}
 use Rattle.claims.specs.NameRows.{ReadNameRow, WriteNameRow}
 use Rattle.claims.specs.RecordRows.{ReadRow, WriteRow}
 use Rattle.claims.specs.StatementRows.{StatementRow}
@@ -75,6 +76,18 @@ pub record Demand1 : Type 0 where
   pub collects : (b : List ℕ) (p t : ℕ) (out : List ℕ)
       → Obeys {M = List ℕ × List ℕ} (CollectRow b (abs b) p t (length out)) (b, out)
       (collecting b p t (length out), (collectedBytes b p t (length out), collectedOut b p t out))
+  -- what C is told of a refusal, number and place in one number, has room for both
+  pub fits-read-name : (max : ℕ) (bytes : List ℕ) → Fits (ReadNameRow max bytes)
+  pub fits-write-name : (max n room : ℕ) → Fits (WriteNameRow max n room)
+  pub fits-read-record : (bytes : List ℕ) → Fits (ReadRow commands bytes)
+  pub fits-write-record : (c : Content) (room : ℕ) → Fits (WriteRow commands c room)
+  pub fits-read-job : (file : List ℕ) (room : ℕ) → Fits (Verdict file room)
+  pub fits-read-statement : (file : List ℕ) (at : ℕ) → Fits (StatementRow file at)
+  pub fits-make : (b : List ℕ) (max : ℕ) → Fits (MakeRow b max)
+  pub fits-place : (b : List ℕ) (p n : ℕ) → Fits (PlaceRow b (abs b) p n)
+  pub fits-take-up : (b : List ℕ) → Fits (TakeUpRow b (abs b))
+  pub fits-answer : (b : List ℕ) (t c : ℕ) (a : Answer) → Fits (AnswerRow b (abs b) t c a)
+  pub fits-collect : (b : List ℕ) (p t room : ℕ) → Fits (CollectRow b (abs b) p t room)
   -- "Each public call's contract determines the returned answer and all memory lent to it, refusals included"
   pub one-read-name : OneResult (Unit {0}) name.readSays
   pub one-written-name : OneResult (List ℕ) name.writeSays

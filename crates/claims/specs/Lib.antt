@@ -4,5 +4,6 @@ pub mod NameRows
 pub mod RecordRows
 pub mod TableRows
 pub mod StatementRows
+pub mod Fits
 pub mod Demands
 pub mod StandIns

@@ -1,0 +1,8 @@
+-- Every refusal of every call fits the one number that C gets: its number is from 1 to 14 and its place at most 65,535. Assumes nothing.
+use Prim.Native.Nat.{ℕ, _≤_}
+use Rattle.counts.specs.Limits.{fileBytes}
+use Rattle.counts.specs.Result.{Result, refused}
+
+-- of an answer, by the rows that give it: where it is a refusal
+abbrev pub Fits : {A : Type 0} → (Result A → Type 0) → Type 0
+Fits Row = (number place : ℕ) → Row (refused number place) → (1 ≤ number) × (number ≤ 14) × (place ≤ fileBytes)
