@@ -91,10 +91,10 @@ fn write_refusal(max: u32, number: SessionNumber, room: usize) -> u32
     ensures { λ r. ⌜ r ≡ writeRefusal max (number .0) room ⌝ }
 {
     if is_max(max) & (number.0 < max) {
-        if NAME_BYTES <= room {
-            0
-        } else {
+        if room < NAME_BYTES {
             TOO_LITTLE_ROOM
+        } else {
+            0
         }
     } else {
         OUT_OF_RANGE

@@ -1,7 +1,7 @@
 -- Answering: the ways through its tests, and what it leaves. Assumes nothing.
 use Prim.Native.Nat.{ℕ, _+_, _-_, _≤_}
 use mathlib.Core.Path.{_≡_, refl, _∙_, ap, sym}
-use mathlib.Core.Bool.{Bool, true, false, _&&_, false≢true}
+use mathlib.Core.Bool.{Bool, true, false, not, _&&_, false≢true}
 use mathlib.Core.List.{List}
 use native.Mathlib.Omega.{arith}
 use borrow.Author.Tests.{leb-true}
@@ -29,6 +29,15 @@ use Rattle.session_table.specs.Paper.{paperAnswered}
 use Rattle.session_table.specs.declared.Answered.the-variants.{Refused as NotAnswered}
 use Rattle.session_table.proofs.Hands.{hand-empty, hand-full}
 use Rattle.session_table.proofs.Verdicts.{passed, passed-both, is-done, is-refused, keeps-bytes}
+
+-- a test and its opposite
+pub is-not : (t : Bool) → not t ≡ true → t ≡ false
+is-not true e = absurd (false≢true e)
+is-not false e = refl
+
+pub is-not-not : (t : Bool) → not t ≡ false → t ≡ true
+is-not-not true e = refl
+is-not-not false e = absurd (false≢true (sym e))
 
 -- an outcome in range is stored in a number
 pub kind-fits : (o : Outcome) → isOutcome o ≡ true → kindOf o ≤ 4294967295

@@ -124,12 +124,9 @@ fn place_refusal(b: &[u8], program: u32, count: u32) -> u32
     if is_sound(b) {
         if is_placeable(program, count) {
             let t = get_table(b);
+            let spent = Table::TICKET_MOST <= t.last.0;
             if has_open(b) {
-                if t.last.0 < Table::TICKET_MOST {
-                    0
-                } else {
-                    NO_TICKET_LEFT
-                }
+                if spent { NO_TICKET_LEFT } else { 0 }
             } else {
                 ALL_TAKEN
             }
@@ -239,9 +236,9 @@ fn answer_refusal(b: &[u8], ticket: Ticket, command: CommandNumber, a: Answer) -
         if names_hand(b, ticket, command) {
             let o = a.outcome;
             let real = record::is_real(a.date, a.time);
-            let in_range = record::is_outcome(o);
+            let wrong = !record::is_outcome(o);
             if real {
-                if in_range { 0 } else { NOT_A_RECORD }
+                if wrong { NOT_A_RECORD } else { 0 }
             } else {
                 NOT_REAL
             }

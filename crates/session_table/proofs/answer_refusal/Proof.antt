@@ -1,5 +1,5 @@
 use mathlib.Core.Path.{_∙_, sym}
-use Rattle.session_table.proofs.Answering.{answer-0, answer-5, answer-7, answer-10, answer-13}
+use Rattle.session_table.proofs.Answering.{is-not, is-not-not, answer-0, answer-5, answer-7, answer-10, answer-13}
 use borrow.Author.Needs.{needs}
 use Rattle.session_table.proofs.answer_refusal.Statement.{statement}
 use Rattle.session_table.proofs.answer_refusal.Tie as tie
@@ -17,10 +17,10 @@ is-outcome-requires : tie.Need-is-outcome-requires
 is-outcome-requires c κs = search needs
 
 returns : tie.Need-returns
-returns c = answer-0 _ _ _ _ (sym (c .before .before .before .before .before .before .before .is-sound .ensures) ∙ c .before .before .before .before .before .before .if1 .taken) (sym (c .before .before .before .before .before .names-hand .ensures) ∙ c .before .before .before .before .if2 .taken) (sym (c .before .before .before .is-real .ensures) ∙ c .before .if3 .taken) (sym (c .before .before .is-outcome .ensures) ∙ c .if4 .taken)
+returns c = answer-7 _ _ _ _ (sym (c .before .before .before .before .before .before .before .is-sound .ensures) ∙ c .before .before .before .before .before .before .if1 .taken) (sym (c .before .before .before .before .before .names-hand .ensures) ∙ c .before .before .before .before .if2 .taken) (sym (c .before .before .before .is-real .ensures) ∙ c .before .if3 .taken) (sym (c .before .before .is-outcome .ensures) ∙ is-not _ (c .if4 .taken))
 
 returns-2 : tie.Need-returns-2
-returns-2 c = answer-7 _ _ _ _ (sym (c .before .before .before .before .before .before .before .is-sound .ensures) ∙ c .before .before .before .before .before .before .if1 .taken) (sym (c .before .before .before .before .before .names-hand .ensures) ∙ c .before .before .before .before .if2 .taken) (sym (c .before .before .before .is-real .ensures) ∙ c .before .if3 .taken) (sym (c .before .before .is-outcome .ensures) ∙ c .if4 .left)
+returns-2 c = answer-0 _ _ _ _ (sym (c .before .before .before .before .before .before .before .is-sound .ensures) ∙ c .before .before .before .before .before .before .if1 .taken) (sym (c .before .before .before .before .before .names-hand .ensures) ∙ c .before .before .before .before .if2 .taken) (sym (c .before .before .before .is-real .ensures) ∙ c .before .if3 .taken) (sym (c .before .before .is-outcome .ensures) ∙ is-not-not _ (c .if4 .left))
 
 returns-3 : tie.Need-returns-3
 returns-3 c = answer-5 _ _ _ _ (sym (c .before .before .before .before .before .before .is-sound .ensures) ∙ c .before .before .before .before .before .if1 .taken) (sym (c .before .before .before .before .names-hand .ensures) ∙ c .before .before .before .if2 .taken) (sym (c .before .before .is-real .ensures) ∙ c .if3 .left)

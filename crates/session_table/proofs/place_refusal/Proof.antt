@@ -1,5 +1,7 @@
 use Rattle.table_layout.specs.Layout.{tableOf}
 use native.Mathlib.Omega.{arith}
+use Rattle.counts.specs.Limits.{ticketMost}
+use borrow.Author.Tests.{leb-true, leb-false}
 use Rattle.session_table.proofs.Placing.{place-0, place-9, place-11, place-12, place-13}
 use Rattle.table_search.proofs.Sounds.{sound-size, sound-limited}
 use mathlib.Core.Path.{_∙_, ap, sym}
@@ -17,18 +19,18 @@ get-table-requires : tie.Need-get-table-requires
 get-table-requires c κs = sound-size _ (sym (c .before .before .before .is-sound .ensures) ∙ c .before .before .if1 .taken)
 
 has-open-requires : tie.Need-has-open-requires
-has-open-requires c κs = sound-limited _ (sym (c .before .before .before .before .is-sound .ensures) ∙ c .before .before .before .if1 .taken)
+has-open-requires c κs = sound-limited _ (sym (c .before .before .before .before .before .is-sound .ensures) ∙ c .before .before .before .before .if1 .taken)
 
 returns : tie.Need-returns
 unfolding tableOf
-returns c = place-0 _ _ _ (sym (c .before .before .before .before .before .before .before .before .is-sound .ensures) ∙ c .before .before .before .before .before .before .before .if1 .taken) (sym (c .before .before .before .before .before .before .is-placeable .ensures) ∙ c .before .before .before .before .before .if2 .taken) (sym (c .before .before .before .has-open .ensures) ∙ c .before .before .if3 .taken) (omega (arith, ap (λ x. x .last .0) (c .before .before .before .before .get-table .ensures)))
+returns c = place-12 _ _ _ (sym (c .before .before .before .before .before .before .before .before .is-sound .ensures) ∙ c .before .before .before .before .before .before .before .if1 .taken) (sym (c .before .before .before .before .before .before .is-placeable .ensures) ∙ c .before .before .before .before .before .if2 .taken) (sym (c .before .before .has-open .ensures) ∙ c .before .if3 .taken) (omega (arith, leb-true ticketMost (c .before .before .before .before .get-table .result .last .0) (c .if4 .taken), ap (λ x. x .last .0) (c .before .before .before .before .get-table .ensures)))
 
 returns-2 : tie.Need-returns-2
 unfolding tableOf
-returns-2 c = place-12 _ _ _ (sym (c .before .before .before .before .before .before .before .before .is-sound .ensures) ∙ c .before .before .before .before .before .before .before .if1 .taken) (sym (c .before .before .before .before .before .before .is-placeable .ensures) ∙ c .before .before .before .before .before .if2 .taken) (sym (c .before .before .before .has-open .ensures) ∙ c .before .before .if3 .taken) (omega (arith, ap (λ x. x .last .0) (c .before .before .before .before .get-table .ensures)))
+returns-2 c = place-0 _ _ _ (sym (c .before .before .before .before .before .before .before .before .is-sound .ensures) ∙ c .before .before .before .before .before .before .before .if1 .taken) (sym (c .before .before .before .before .before .before .is-placeable .ensures) ∙ c .before .before .before .before .before .if2 .taken) (sym (c .before .before .has-open .ensures) ∙ c .before .if3 .taken) (omega (arith, leb-false ticketMost (c .before .before .before .before .get-table .result .last .0) (c .if4 .left), ap (λ x. x .last .0) (c .before .before .before .before .get-table .ensures)))
 
 returns-3 : tie.Need-returns-3
-returns-3 c = place-9 _ _ _ (sym (c .before .before .before .before .before .before .is-sound .ensures) ∙ c .before .before .before .before .before .if1 .taken) (sym (c .before .before .before .before .is-placeable .ensures) ∙ c .before .before .before .if2 .taken) (sym (c .before .has-open .ensures) ∙ c .if3 .left)
+returns-3 c = place-9 _ _ _ (sym (c .before .before .before .before .before .before .before .is-sound .ensures) ∙ c .before .before .before .before .before .before .if1 .taken) (sym (c .before .before .before .before .before .is-placeable .ensures) ∙ c .before .before .before .before .if2 .taken) (sym (c .before .has-open .ensures) ∙ c .if3 .left)
 
 returns-4 : tie.Need-returns-4
 returns-4 c = place-11 _ _ _ (sym (c .before .before .before .is-sound .ensures) ∙ c .before .before .if1 .taken) (sym (c .before .is-placeable .ensures) ∙ c .if2 .left)
