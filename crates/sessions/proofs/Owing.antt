@@ -11,7 +11,7 @@ use Rattle.counts.specs.Limits.{programs}
 use Rattle.counts.specs.Refusals.{tooLittleRoom, notTheOne}
 use Rattle.sessions.specs.Find.{Found, none, at}
 use Rattle.sessions.specs.History.{Event, written, placings, accepted, collections}
-use Rattle.sessions.specs.Owed.{ifRoom, owedOf, owed, Yours}
+use Rattle.sessions.specs.Owed.{owedOf, owed, Yours}
 use Rattle.sessions.specs.declared.Answer.{Answer}
 use Rattle.counts.specs.Result.{refused, done}
 use Rattle.sessions.specs.Table.{State, within, isReady, reply, numbered, collectFrom, collect}
