@@ -1,5 +1,5 @@
--- The points of a statement (document 01, "The job grammar"): for each, the classes of token that may stand there, each with the
--- point after it.
+-- The classes of token; and the points of a statement (document 01, "The job grammar"): for each, the classes that may stand there, each with
+-- the point after it. The points need not be believed: `proofs/Points` shows that they are the productions.
 use Prim.Native.Nat.{ℕ}
 use mathlib.Core.Bool.{Bool, cond}
 use mathlib.Core.List.{List, [], _∷_}

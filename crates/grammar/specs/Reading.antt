@@ -1,4 +1,5 @@
--- The reading of a job file's tokens, from the left, through the points.
+-- What ends a file's tokens, and what a reader answers; and the reading of the tokens, from the left, through the points. The reading need not be
+-- believed: `proofs/Verdicts` shows that it gives the verdict of `Rows`.
 use Prim.Native.Nat.{ℕ}
 use mathlib.Core.Bool.{cond}
 use mathlib.Core.List.{List, [], _∷_, _++_}

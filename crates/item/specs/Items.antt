@@ -1,5 +1,5 @@
 -- The next token as code has it: a struct of numbers. The bytes s are those of the file from the place base on, and places are counted
--- from the file's start.
+-- from the file's start. Need not be believed: `proofs/Tells` shows that it tells all that the token of `Tokens` says.
 use Prim.Native.Nat.{ℕ, _+_, _-_, _≤_}
 use mathlib.Core.Path.{_≡_}
 use mathlib.Core.List.{List}

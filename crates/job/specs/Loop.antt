@@ -1,4 +1,5 @@
--- The loop over a file's statements, as code has it: what one token between statements leads to, and the rest of the file after it.
+-- The loop over a file's statements, as code has it: what one token between statements leads to, and the rest of the file after it. Need not be
+-- believed: `proofs/Bridge` shows that it is the reading of the whole list of tokens.
 use Prim.Native.Nat.{ℕ, zero, suc}
 use mathlib.Core.Bool.{cond}
 use mathlib.Core.List.{List, [], _∷_, _++_}

@@ -1,5 +1,6 @@
 -- What a statement reads as (document 01, "The job grammar"): a word for each point of a statement, as code has a function for each. The
--- bytes s are those of the file from the place base on, and places are counted from the file's start.
+-- bytes s are those of the file from the place base on, and places are counted from the file's start. Need not be believed: what the productions
+-- read, these words read (`meaning`), and they refuse where 01's rows say (`job_claims`).
 use Prim.Native.Nat.{ℕ}
 use mathlib.Core.Bool.{Bool, true, false, cond, _&&_, _||_}
 use mathlib.Core.List.{List, [], _∷_}
