@@ -121,8 +121,7 @@ read-legal (t ∷ l) o os e =
     go (on r ps) (goes n a) d = absurd (true≢false n)
     go (on r ps) (begins n f a) d =
         let s : Rest (step first (t .class)) (t .place ∷ []) l (o ∷ os) = rest l (step first (t .class)) (t .place) [] (o ∷ os) d in
-        let w : (x : Statement) × Ended Job (t ∷ s .open-part) x = walked-job (t ∷ s .open-part) (s .walked) in
-        (
+        let w : (x : Statement) × Ended Job (t ∷ s .open-part) x = walked-job (t ∷ s .open-part) (s .walked) in (
           w .0 ∷ s .read,
           subst₂ (λ (m : List Placed) (all : List ℕ). File (t ∷ m) all (w .0 ∷ s .read)) (sym (s .parts)) (sym (s .offsets)) (file (w .1) (s .closed)),
         )

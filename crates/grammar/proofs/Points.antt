@@ -169,36 +169,33 @@ any-other (x, o) = (x, another o)
 edges : (q : Point) → Each (Joins q) (next q)
 edges first = (on (λ t i k b. b t i), tt)
 edges between = (on uploads, (on downloads, (on (λ t i k b. b t i), (on (λ t i k b. b t i), tt))))
-edges statement =
-    (
-      on (λ t i k b. (b t i .0, the-job (b t i .1))),
-      (
-        on (λ t i k b. any-other (uploads t i k b)),
-        (on (λ t i k b. any-other (downloads t i k b)), (on (λ t i k b. any-other (b t i)), (on (λ t i k b. any-other (b t i)), tt))),
-      ),
-    )
+edges statement = (
+  on (λ t i k b. (b t i .0, the-job (b t i .1))),
+  (
+    on (λ t i k b. any-other (uploads t i k b)),
+    (on (λ t i k b. any-other (downloads t i k b)), (on (λ t i k b. any-other (b t i)), (on (λ t i k b. any-other (b t i)), tt))),
+  ),
+)
 edges jobName = (on (λ n i k b j h. b j h n i), tt)
 edges jobResponse = (on (λ r i k b j h n g. b j h n g r i), tt)
 edges jobFile = (closes (λ f i j h n g r e. (_, job h g e i)), tt)
 edges moveFile = (on (λ f i k b. b f i), tt)
-edges moveSource =
-    (
-      on (λ t i k b f h. move h (active i) (b .1)),
-      (on (λ t i k b f h. move h (file i) (b .1)), (on (λ t i k b f h. move h (program i) (b .1)), tt)),
-    )
+edges moveSource = (
+  on (λ t i k b f h. move h (active i) (b .1)),
+  (on (λ t i k b f h. move h (file i) (b .1)), (on (λ t i k b f h. move h (program i) (b .1)), tt)),
+)
 edges moveStart = (on (λ s i k b. b s i), (ends (_, missing), tt))
 edges startKind = (closes (λ t i s h. (_, immediate h i)), (on (λ t i k b s h. b s h t i), (on (λ t i k b s h. b s h t i), tt)))
 edges startTime = (on (λ t i k b s h g j. b s h g j t i), tt)
 edges startDate = (closes (λ d i s h g j t l. (_, at-time-on h j l i)), (ends (λ s h g j t l. (_, at-time h j l)), tt))
 edges startOperator = (on (λ o i k b s h n j. b s h n j o i), tt)
-edges startValue =
-    (
-      closes (λ v i s h n j o l. (_, when h j l (plain i))),
-      (
-        closes (λ v i s h n j o l. (_, when h j l (digits i))),
-        (closes (λ v i s h n j o l. (_, when h j l (unreal-digits i))), (closes (λ v i s h n j o l. (_, when h j l (quoted i))), tt)),
-      ),
-    )
+edges startValue = (
+  closes (λ v i s h n j o l. (_, when h j l (plain i))),
+  (
+    closes (λ v i s h n j o l. (_, when h j l (digits i))),
+    (closes (λ v i s h n j o l. (_, when h j l (unreal-digits i))), (closes (λ v i s h n j o l. (_, when h j l (quoted i))), tt)),
+  ),
+)
 edges infoFile = (closes (λ f i g h. (_, getinfo h i)), tt)
 edges abortKind = (on (λ w i k b a h. b a h .0 w i), (on (λ w i k b a h. b a h .1 w i), tt))
 edges abortName = (closes (λ n i a h. (λ w j. (_, abort-report h j i), λ w j. (_, abort-event h j i))), tt)

@@ -1,6 +1,6 @@
 -- A number token stands exactly where a numeral of at most 16 digits ends its numeric run: so what it reads as is small. Assumes nothing.
 use Prim.Native.Nat.{ℕ, suc, _+_, _-_, _^_, _≤_, _<_}
-use mathlib.Core.Path.{_≡_, refl, sym, ap, _∙_, subst}
+use mathlib.Core.Path.{_≡_, refl, ap, _∙_}
 use mathlib.Core.Bool.{Bool, true, false, cond, _&&_}
 use mathlib.Core.List.{List, [], _∷_, _++_, List·Memᴰ}
 use mathlib.Core.List.List·Memᴰ.{List·Memᴰ·head, List·Memᴰ·tail}
@@ -21,7 +21,6 @@ use Rattle.scan.specs.Kinds.{isDigit, isNumericByte}
 use Rattle.scan.specs.Run.{run, runEnd, blankEnd}
 use Rattle.scan.proofs.Runs.{run-passes}
 use Rattle.token.specs.Token.{isNumberAt, tokenAt, nextToken}
-use Rattle.token.specs.declared.Token.{Token}
 use Rattle.token.specs.declared.Token.the-variants.{Number}
 use Rattle.token.proofs.Ahead.{Span, Figures, figures, in-range, past}
 use Rattle.item.specs.Numbers.{NumberFrom}

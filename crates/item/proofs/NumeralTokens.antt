@@ -1,7 +1,7 @@
 -- Where a numeral ends its numeric run, it is the token that stands there. Assumes nothing.
 use Prim.Native.Nat.{ℕ, zero, suc, _+_, _-_, _≤_, _<_}
 use mathlib.Core.Path.{_≡_, refl, sym, ap, _∙_}
-use mathlib.Core.Bool.{Bool, true, false, true≢false, cond, _&&_, _||_}
+use mathlib.Core.Bool.{Bool, true, false, true≢false, _&&_}
 use mathlib.Core.List.{List, [], _∷_, _++_, append-assoc, List·Memᴰ, List·Memᴰ·cases-cons, List·Memᴰ·not-nil, List·Memᴰ·append-cases}
 use mathlib.Core.List.List·Memᴰ.{List·Memᴰ·head, List·Memᴰ·tail}
 use mathlib.Core.Logic.{_⊎_, inl, inr, ⊎-elim}
@@ -19,7 +19,6 @@ use Rattle.scan.specs.Kinds.{isDigit, isLetter, isNumericByte}
 use Rattle.scan.specs.Run.{run, runEnd}
 use Rattle.scan.proofs.Runs.{run-whole}
 use Rattle.token.specs.Token.{pairAt, isTimeAt, isNumberAt, shapedAt, numericAt, tokenAt}
-use Rattle.token.specs.declared.Token.{Token}
 use Rattle.token.specs.declared.Token.the-variants.{Number}
 use Rattle.token.proofs.Ahead.{numeric-byte}
 

@@ -47,11 +47,10 @@ alive a o =
 
 opens : (a : List Placed) → isPoint (point a) dead ≡ false → Opens a
 opens a e =
-    let r : List Placed = placed (finish (point a)) in
-    (
+    let r : List Placed = placed (finish (point a)) in (
       r,
       walked-any (a ++ r)
-      (ap (walk statement) (classes-append a r) ∙ walk-append statement (classes a) (classes r) ∙ ap (walk (point a)) (its-classes (finish (point a))) ∙ finishes (point a) e),
+          (ap (walk statement) (classes-append a r) ∙ walk-append statement (classes a) (classes r) ∙ ap (walk (point a)) (its-classes (finish (point a))) ∙ finishes (point a) e),
     )
 
 not-opens : (a : List Placed) → isPoint (point a) dead ≡ true → ¬ Opens a

@@ -1,13 +1,13 @@
 -- What a numeral reads as: its digits as one whole number with its sign, and how many of them stand after the point. Assumes nothing.
-use Prim.Native.Nat.{ℕ, zero, suc, _+_, _^_, _≤_, _<_}
-use mathlib.Core.Path.{_≡_, refl, sym, ap, ap₂, _∙_, subst}
-use mathlib.Core.Bool.{Bool, true, false, _&&_}
+use Prim.Native.Nat.{ℕ, zero, suc, _^_, _≤_, _<_}
+use mathlib.Core.Path.{_≡_, refl, sym, ap, _∙_}
+use mathlib.Core.Bool.{Bool, true, false}
 use mathlib.Core.List.{List, [], _∷_, _++_}
 use native.Mathlib.Nat.{pow-le-pow-right}
 use native.Mathlib.Omega.{arith}
 use borrow.Author.Tests.{ne-eqb}
 use lib.Dec.{eqb}
-use lib.IntN.{pos, negℤ, natAbs}
+use lib.IntN.{natAbs}
 use lib.ListN.{length, getD, length-append}
 use Rattle.laws.proofs.Choose.{and-left, and-right, and-both}
 use Rattle.decimal.specs.Digits.{value, isDigit, allDigits}

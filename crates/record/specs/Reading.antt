@@ -1,4 +1,5 @@
--- What reading a record answers, field by field: where a field is not there, the record is refused.
+-- What reading a record answers, field by field: where a field is not there, the record is refused. The fields need not be believed: `proofs/RoundTrip`
+-- shows that exactly the permitted records' bytes are taken, and as those records.
 use Prim.Native.Nat.{ℕ, _+_, _-_, _*_}
 use mathlib.Core.Bool.{cond, _&&_}
 use mathlib.Core.List.{List, []}

@@ -105,7 +105,7 @@ module _ (b : List ℕ) (p t room : ℕ) where
     pub collect-room : length (reply (slotOf b s)) ≤ room
     collect-room = rw is-number (w .room-enough)
 
-    collect-done : done (reply (slotOf b s)) ≡ collecting b p t room
+    pub collect-done : done (reply (slotOf b s)) ≡ collecting b p t room
     collect-done = collect-is (w .sound) (w .range) s (w .found ∙ ap at (sym is-number)) collect-room
 
     pub collect-leaves : collectedAt b s ≡ collectedBytes b p t room

@@ -1,5 +1,5 @@
 -- Where a token stands: at the place where it was looked for, and it ends after it, within the file. Assumes nothing.
-use Prim.Native.Nat.{ℕ, _+_, _-_, _≤_, _<_, max}
+use Prim.Native.Nat.{ℕ, _+_, _≤_, _<_, max}
 use mathlib.Core.Path.{_≡_, refl, sym, _∙_, ap}
 use mathlib.Core.Bool.{Bool, true, false, true≢false, cond, _||_, _&&_}
 use mathlib.Core.List.{List}
@@ -9,7 +9,7 @@ use borrow.Author.Tests.{ltb-true, ltb-false, leb-true, eqb-true}
 use lib.Dec.{ltb, leb, eqb}
 use lib.ListN.{length, getD, drop, length-drop, List·getD-eq-default}
 use lib.Seq.{drop-cons}
-use Rattle.counts.specs.Limits.{wordBytes, textBytes, numberDigits}
+use Rattle.counts.specs.Limits.{wordBytes, numberDigits}
 use Rattle.laws.proofs.Choose.{and-left, and-right}
 use Rattle.field.specs.Bytes.{ascii, hasAt}
 use Rattle.field.proofs.Same.{has-room}
@@ -220,3 +220,10 @@ number-inside s i a b r d e =
     let h = the-figures (next-ahead s i r (Number a b) d e) in
     let n = number-short s i (h .2 .first) b (h .2 .number) in
     record { ahead = h .1 .ahead; inside = h .1 .inside; short = ⊎-elim (λ p. omega arith) (λ p. omega arith) (h .2 .sign) }
+
+-- a string's opening quote stands within the file
+pub text-inside : (s : List ℕ) (i : ℕ) → isTextAt s i ≡ true → i < length s
+unfolding isTextAt
+text-inside s i e =
+    in-range s i (λ b. eqb b 34) i refl
+    (and-left (eqb (getD s i 0) 34) (contentFits s i) (and-left (eqb (getD s i 0) 34 && contentFits s i) (eqb (getD s (contentEnd s i) 0) 34) e))

@@ -1,16 +1,13 @@
 -- The string token as the code finds it: by its opening quote, the end e of its content and the byte b there. Assumes nothing.
 use Prim.Native.Nat.{ℕ, _+_, _-_, _≤_, _<_}
-use mathlib.Core.Path.{_≡_, refl, sym, _∙_, ap, subst}
-use mathlib.Core.Bool.{Bool, true, false}
+use mathlib.Core.Path.{_≡_, _∙_, ap}
+use mathlib.Core.Bool.{true}
 use mathlib.Core.List.{List}
-use native.Mathlib.Omega.{arith}
 use borrow.Author.Needs.{needs}
 use borrow.Author.Tests.{le-leb, lt-leb, eq-eqb, ne-eqb}
-use lib.Dec.{eqb, leb}
 use lib.ListN.{length, getD}
 use Rattle.counts.specs.Limits.{textBytes}
 use Rattle.token.specs.Token.{contentEnd, contentFits, isTextAt, textAt}
-use Rattle.token.specs.declared.Token.{Token}
 use Rattle.token.specs.declared.Token.the-variants.{Fault, Text}
 use Rattle.token.specs.declared.Why.the-variants.{OpenString, BrokenString}
 

@@ -3,7 +3,7 @@
 use Prim.Native.Nat.{ℕ, suc, _+_, _-_, _≤_, _<_}
 use mathlib.Core.Path.{_≡_, refl, sym, _∙_, ap}
 use mathlib.Core.Bool.{Bool, true, false, false≢true, cond, _&&_, _||_}
-use mathlib.Core.List.{List, [], _∷_, _++_, List·Memᴰ}
+use mathlib.Core.List.{List, _∷_, _++_}
 use mathlib.Core.Logic.{_↔_}
 use native.Mathlib.Numerals.{add-one}
 use native.Mathlib.Omega.{arith}
@@ -19,7 +19,7 @@ use Rattle.scan.proofs.Runs.{run-fits, run-passes, run-whole}
 use Rattle.token.specs.Token.{WholeString, contentEnd, contentFits, isTextAt, contentAt, wordAt, textAt, shapedAt, numericAt, signAt, tokenAt}
 use Rattle.token.specs.declared.Token.{Token}
 use Rattle.token.specs.declared.Token.the-variants.{End, Fault, Word, TimeGe, Number, Time, Text, Sign, Semicolon}
-use Rattle.token.proofs.Ahead.{in-range}
+use Rattle.token.proofs.Ahead.{in-range, text-inside}
 
 -- ---- "bytes from 32 to 254 other than 34"
 
@@ -49,7 +49,7 @@ module _ (s : List ℕ) (i : ℕ) where
 
   shown : contentAt s i ≡ take (run isTextByte (drop (i + 1) s)) (drop (i + 1) s)
   unfolding contentAt
-  shown = rw content-length
+  shown = ap (λ (n : ℕ). take n (drop (i + 1) s)) content-length
 
   closing : getD (drop (i + 1) s) (run isTextByte (drop (i + 1) s)) 0 ≡ getD s (contentEnd s i) 0
   unfolding runEnd
@@ -102,9 +102,6 @@ module _ (s : List ℕ) (i : ℕ) where
         drop-cons s (contentEnd s i) 0 (in-range s i (λ b. eqb b 34) (contentEnd s i) refl (eq-eqb _ _ ends))
         ∙ ap (λ (b : ℕ). b ∷ drop (suc (contentEnd s i)) s) ends
 
-    inside : i < length s
-    inside = in-range s i (λ b. eqb b 34) i refl (eq-eqb _ _ begins)
-
     split : drop (i + 1) s ≡ contentAt s i ++ (34 ∷ drop (suc (contentEnd s i)) s)
     unfolding runEnd
     split =
@@ -115,7 +112,7 @@ module _ (s : List ℕ) (i : ℕ) where
     whole : WholeString s i (contentAt s i)
     whole = record {
       after = drop (suc (contentEnd s i)) s;
-      stands = drop-cons s i 0 inside ∙ rw (begins, ← add-one i) (ap (λ (l : List ℕ). 34 ∷ l) split);
+      stands = drop-cons s i 0 (text-inside s i t) ∙ rw (begins, ← add-one i) (ap (λ (l : List ℕ). 34 ∷ l) split);
       few = rw shown (omega (arith, fits, length-take (run isTextByte (drop (i + 1) s)) (drop (i + 1) s)));
       each = λ b m. text-byte b (run-passes isTextByte (drop (i + 1) s) b (rw shown at m));
     }
@@ -185,7 +182,7 @@ module _ (s : List ℕ) (i : ℕ) where
 
   to-string : isTextAt s i ≡ true → tokenAt s i ≡ Text i (contentEnd s i + 1)
   unfolding tokenAt textAt
-  to-string t = rw (lt-ltb _ _ (inside s i t), begins s i t, t)
+  to-string t = rw (lt-ltb _ _ (text-inside s i t), begins s i t, t)
 
   -- the closing quote stands just after the content
   end-of : isTextAt s i ≡ true → contentEnd s i + 1 ≡ i + length (contentAt s i) + 2

@@ -1,5 +1,5 @@
 -- The tokens of a job file (document 01, "Bytes and tokens"): each definition stands under its rule there. "A token is the longest run of
--- its kind". Where no token stands, `Fault` keeps why.
+-- its kind". Where no token stands, `Fault` keeps why, which no call shows.
 use Prim.Native.Nat.{ℕ, _+_, _-_, _≤_, _<_}
 use mathlib.Core.Bool.{Bool, false, cond, _&&_, _||_}
 use mathlib.Core.Path.{_≡_}
