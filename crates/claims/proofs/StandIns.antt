@@ -227,14 +227,14 @@ module _ (fresh : ℕ → List ℕ) (step : Step) (meets : Demand3 fresh step) w
     abbrev both : List ℕ
     both = replicate (length (reply (w .these)) + length (reply (w .those))) 0
 
-    room : length both ≡ length (reply (w .these)) + length (reply (w .those))
-    room = length-replicate _ 0
+    room-for-both : length both ≡ length (reply (w .these)) + length (reply (w .those))
+    room-for-both = length-replicate _ 0
 
     hands-these : step (bytesBy fresh step (w .run)) (toCollect p t both) .0 ≡ collected p t both (done (length (reply (w .these)))) (written both (reply (w .these)))
-    hands-these = whole-is-there (w .run) p t (w .these) both (w .so) (omega (arith, room))
+    hands-these = whole-is-there (w .run) p t (w .these) both (w .so) (omega (arith, room-for-both))
 
     hands-those : step (bytesBy fresh step (w .other)) (toCollect p t both) .0 ≡ collected p t both (done (length (reply (w .those)))) (written both (reply (w .those)))
-    hands-those = whole-is-there (w .other) p t (w .those) both (w .or-so) (omega (arith, room))
+    hands-those = whole-is-there (w .other) p t (w .those) both (w .or-so) (omega (arith, room-for-both))
 
     later-not-invented : (invented : ℕ → ℕ → List ℕ → ℕ × List ℕ) → Invents step invented → 1 < t → ⊥
     later-not-invented invented always later =

@@ -23,7 +23,7 @@ use Rattle.sessions.specs.Find.{find, put}
 use Rattle.sessions.specs.History.{Event, made, placed, tookUp, answered, collected, written, gather, collection, accepted}
 use Rattle.sessions.specs.Table.{fresh as freshState, isOpen, isWaiting, names, numbered, records, placeIn, place, takeNext, takeHand, takeUp, answerHand, answer}
 use Rattle.sessions.specs.declared.Answer.{Answer}
-use Rattle.session_table.specs.Calls.{freshBytes, placing, placedBytes}
+use Rattle.session_table.specs.Calls.{freshBytes, placing, placedBytes, collectedOut}
 use Rattle.session_table.specs.Collect.{lengthOf}
 use Rattle.session_histories.specs.Runs.{Call, toMake, toPlace, toTakeUp, toAnswer, toCollect, Step, stepBytes, bytesAfter, historyOf, neverAnew}
 use Rattle.claims.specs.Demands.{Reader}
@@ -270,6 +270,10 @@ shortened-events : historyBy freshBytes shortens (of-two shortened shortened-kep
 unfolding historyOf bytesAfter shortens shortened stepBytes first-events asking
 shortened-events = ap (asking 2) serves-first
 
+-- what the collection leaves in the output
+abbrev left-over : List ℕ
+left-over = collectedOut (bytesAfter (freshBytes 2) stepBytes answering-one) 1 1 output
+
 hands-over : HandsOver freshBytes shortens 2 1
 unfolding bytesAfter shortens shortened stepBytes accepted
 hands-over =
@@ -284,8 +288,8 @@ hands-over =
       k-answered = ap (λ (h : List Event). length (accepted 1 h)) shortened-events;
       output = output;
       length-given = length (records (numbered 1 (processed ∷ [])));
-      exit = _;
-      given = ap (λ (r : Result (List ℕ)). collected 1 1 output (lengthOf r) _) hands-over-first;
+      exit = left-over;
+      given = ap (λ (r : Result (List ℕ)). collected 1 1 output (lengthOf r) left-over) hands-over-first;
     }
 
 -- ---- a reader that takes what it should, and says that there is one statement
@@ -332,5 +336,5 @@ exhibited =
       a-reader-makes-up = (counts-one, λ n offsets. 1, makes-up);
       a-table-makes-up = (shortens, hands-over);
       a-table-holds-back = (butCollects holds, processed ∷ [], held-back);
-      this-table-accepts = accepts stepBytes is-second;
+      this-table-accepts = accepts stepBytes (λ a e. is-second a e);
     }
