@@ -6,7 +6,7 @@ use lib.Dec.{leb}
 use lib.ListN.{length, drop}
 use Rattle.counts.specs.Limits.{fileBytes}
 use Rattle.counts.specs.Refusals.{fileTooLong, tooFewPlaces}
-use Rattle.counts.specs.Result.{Result}
+use Rattle.counts.specs.Result.{Result, refusedAs}
 use Rattle.counts.specs.Result.Result.{refused, done}
 use Rattle.grammar.specs.Reading.{Answer, read}
 use Rattle.item.specs.Tokens.{line}
@@ -37,4 +37,4 @@ filled (refused n p) table = table
 -- the paper's value of each answer of `read_job`
 abbrev pub jobSays : JobAnswer → Result ℕ
 jobSays (Taken n) = done n
-jobSays (Refused r) = refused (r .number) (r .place)
+jobSays (Refused r) = refusedAs r

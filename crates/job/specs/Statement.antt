@@ -7,7 +7,7 @@ use lib.Dec.{leb}
 use lib.ListN.{length, drop}
 use Rattle.counts.specs.Limits.{fileBytes}
 use Rattle.counts.specs.Refusals.{fileTooLong, outOfRange}
-use Rattle.counts.specs.Result.{Result}
+use Rattle.counts.specs.Result.{Result, refusedAs}
 use Rattle.counts.specs.Result.Result.{refused, done}
 use Rattle.token.specs.Token.{isTextAt, contentAt}
 use Rattle.grammar.specs.Statement as read
@@ -47,7 +47,7 @@ readStatement s at =
 -- the paper's value of each answer of `read_statement`
 abbrev pub statementSays : StatementAnswer → Result StatementAt
 statementSays (Read x) = done x
-statementSays (NotRead r) = refused (r .number) (r .place)
+statementSays (NotRead r) = refusedAs r
 
 -- "The text of a quoted string is shown as that part of the file between its quotes. ... where no whole string begins there it shows the
 -- empty part"
