@@ -1,9 +1,7 @@
 -- Every refusal of every call fits what C gets, row by row. Assumes nothing.
 use Prim.Native.Nat.{ℕ, _≤_}
-use mathlib.Core.Path.{_≡_}
 use mathlib.Core.List.{List}
 use native.Mathlib.Omega.{arith}
-use lib.ListN.{length}
 use Rattle.counts.specs.Limits.{fileBytes}
 use Rattle.counts.specs.Result.Result.{refused}
 use Rattle.sessions.specs.Table.{State}

@@ -7,8 +7,7 @@ use native.Mathlib.Omega.{arith}
 use Rattle.counts.specs.Refusals.{noToken, unexpected, notReal}
 use Rattle.grammar.specs.Grammar.{Class, Point, step, walk, isPoint, shape}
 use Rattle.grammar.specs.Grammar.Point.{statement, done, dead}
-use Rattle.grammar.specs.Statement.{Statement}
-use Rattle.grammar.specs.Productions.{Placed, Any, Ended, classes}
+use Rattle.grammar.specs.Productions.{Placed, classes}
 use Rattle.grammar.specs.Reading.{Last}
 use Rattle.grammar.specs.Reading.Last.{end, broken}
 use Rattle.grammar.specs.Rows.{real, Stands}
@@ -63,13 +62,13 @@ not-whole a e w = true≢false (sym (ap (λ (q : Point). isPoint q done) (any-wa
 still-open : (a : List Placed) → ¬ WholeOne a → isPoint (point a) done ≡ false
 still-open a n = refuted (isPoint (point a) done) (λ e. n (walked-any a (is-point (point a) done e)))
 
--- a whole statement, whatever it reads, up to the place e
-abbrev pub Somewhat : List ℕ → ℕ → ℕ → Type 0
-Somewhat s at e = (a : List Placed) × After s at a e × WholeOne a
+-- a whole statement stands at `at`, whatever it reads, and ends at e
+abbrev pub WholeAt : List ℕ → ℕ → ℕ → Type 0
+WholeAt s at e = (a : List Placed) × After s at a e × WholeOne a
 
 -- the verdict on one statement
 pub data Judged (s : List ℕ) (at : ℕ) (ts : List Placed) (z : Last) : Part → Type 0 where
-  read : {e : ℕ} → Somewhat s at e → Judged s at ts z (whole e)
+  read : {e : ℕ} → WholeAt s at e → Judged s at ts z (whole e)
   three : {p : ℕ} → OneThree ts z p → Judged s at ts z (stopped noToken p)
   four-end : {p : ℕ} → OneFourEnd ts z p → Judged s at ts z (stopped unexpected p)
   four-token : {p : ℕ} → OneFourToken ts p → Judged s at ts z (stopped unexpected p)
@@ -123,7 +122,7 @@ module _ (s : List ℕ) where
 
   -- the rows give the reading
   module _ (at : ℕ) (ts : List Placed) (z : Last) (d : Tokens s at ts z) where
-    whole-is : (e : ℕ) → Somewhat s at e → partAt s statement at ≡ whole e
+    whole-is : (e : ℕ) → WholeAt s at e → partAt s statement at ≡ whole e
     whole-is e (a, f, w) = along f statement (ap (λ (q : Point). isPoint q dead) (any-walks (w .1))) ∙ ap (λ (q : Point). partAt s q e) (any-walks (w .1))
 
     none-is : (p : ℕ) → OneThree ts z p → partAt s statement at ≡ stopped noToken p

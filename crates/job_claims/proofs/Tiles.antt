@@ -23,12 +23,10 @@ use Rattle.grammar.specs.Reading.Last.{end}
 use Rattle.item.specs.Tokens.{itemOf, nextItem, Tokens, After}
 use Rattle.item.specs.Tokens.Next.{item}
 use Rattle.item.specs.Tokens.After.{then}
-use Rattle.item.specs.Items.{itemAt}
 use Rattle.item.specs.declared.Item.{Item}
 use Rattle.item.proofs.Lines.{ahead, inside}
 use Rattle.item.proofs.Shows.{from-there}
 use Rattle.item.proofs.Tells.{tells}
-use Rattle.statement.specs.Statement.{statementOf}
 use Rattle.statement.specs.declared.Statement.{Statement}
 use Rattle.meaning.specs.Paper.{paperStatement}
 use Rattle.statement.proofs.From.{statement-from}

@@ -2,11 +2,10 @@
 use Prim.Native.Nat.{ℕ, _+_, _-_}
 use mathlib.Core.Path.{_≡_, refl, sym, _∙_, ap, ap₂}
 use native.Mathlib.Omega.{arith}
-use Rattle.number.specs.declared.Number.{Number as NumberRead}
 use Rattle.token.specs.declared.Operator.{Operator}
 use Rattle.token.specs.declared.Operator.the-variants.{Equal, NotEqual, Above, Below, AtLeast, AtMost}
 use Rattle.grammar.specs.Statement as read
-use Rattle.item.specs.Tokens.{paperNumber, paperOperator}
+use Rattle.item.specs.Tokens.{paperOperator}
 use Rattle.statement.specs.declared.Part.{Part}
 use Rattle.statement.specs.declared.Source.{Source}
 use Rattle.statement.specs.declared.Source.the-variants.{Active, File, Name}

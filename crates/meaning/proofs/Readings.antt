@@ -29,13 +29,12 @@ use Rattle.statement.specs.declared.Day.the-variants.{Any, On}
 use Rattle.statement.specs.declared.Operand.{Operand}
 use Rattle.statement.specs.declared.Operand.the-variants.{Number, Text}
 use Rattle.statement.specs.declared.Start.{Start}
-use Rattle.statement.specs.declared.Start.the-variants.{Immediate, At, When}
+use Rattle.statement.specs.declared.Start.the-variants.{Immediate, At}
 use Rattle.statement.specs.declared.Aborted.{Aborted}
 use Rattle.statement.specs.declared.Aborted.the-variants.{Report, Event}
 use Rattle.statement.specs.declared.Statement.{Statement}
 use Rattle.statement.specs.declared.Statement.the-variants.{Job, Upload, Download, GetInfo, Abort}
 use Rattle.statement.specs.declared.Transfer.{Transfer}
-use Rattle.statement.specs.declared.StatementRead.{StatementRead}
 use Rattle.statement.specs.declared.StatementRead.the-variants.{Is}
 use Rattle.meaning.specs.Paper.{paperName, paperSource, paperValue, paperStart, paperStatement}
 use Rattle.statement.specs.Statement.{oneOf, partOf, condition, transferred, transfer, ending, jobFile, jobResponse, jobName, startValue, startOperator, startDate, startTime, startKind, moveStart, moveSource, moveFile, infoFile, abortName, abortKind, statementOf}
