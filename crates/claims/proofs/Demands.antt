@@ -1,30 +1,35 @@
 -- The first two demands hold, from the crates below; the third is in `Demand3`. Assumes nothing.
 use Prim.Native.Nat.{ℕ}
 use mathlib.Core.Path.{_≡_, refl, ap}
-use mathlib.Core.Bool.{cond}
-use mathlib.Core.List.{List}
+use mathlib.Core.Bool.{Bool, true, false, cond}
+use mathlib.Core.List.{List, []}
 use native.Mathlib.Omega.{arith}
 use lib.Dec.{eqb}
 use lib.ListN.{length}
 use Rattle.counts.specs.Limits.{commands, sessions}
-use Rattle.counts.proofs.Results.{passed}
+use Rattle.counts.proofs.Results.{passed, refused-not-done}
 use Rattle.counts.specs.Result.{Result, refused, done}
 use Rattle.field.specs.Part.{put}
 use Rattle.session_name.specs.Name as name
 use Rattle.session_name.specs.declared.Kind.{Kind}
 use Rattle.session_name.proofs.RoundTrip as names
 use Rattle.record.specs.Record.{Content, recordBytes}
+use Rattle.record.specs.Reading.{contentOf, withText, textOf}
 use Rattle.record.specs.Writing as writing
+use Rattle.record.specs.declared.Record.{Record}
 use Rattle.record.proofs.RoundTrip as records
 use Rattle.grammar.specs.Reading.{Answer as Reading}
+use Rattle.item.proofs.Lines.{tokens-at}
 use Rattle.item.proofs.Spelled.{in-file-exactly}
 use Rattle.job.specs.Job.{readJob, filled}
+use Rattle.job.specs.Statement.{textAt}
 use Rattle.job_claims.proofs.Claims.{judged, only, taken-exactly, one-exactly, two-exactly, three-exactly, four-exactly, five-exactly, six-exactly, statements-exactly, one-reading, end-is-last}
 use Rattle.job_claims.proofs.Determined.{one-job-answer, one-statement-answer}
 use Rattle.job_claims.proofs.Statements.{reading-exactly}
 use Rattle.meaning.proofs.Lossless.{one-statement}
 use Rattle.number.proofs.Numerals.{numeral-reads, minus-zero}
 use Rattle.item.proofs.NumberTokens.{number-token-exactly, number-is-small}
+use Rattle.token.specs.Token.{WholeString, isTextAt, contentAt}
 use Rattle.token.proofs.Whole.{whole-string-exactly, string-token-exactly}
 use Rattle.session_table.specs.Calls.{making, madeBytes, collectedOut}
 use Rattle.session_table.proofs.Untouched.{answering-changes-nothing-else}
@@ -105,6 +110,7 @@ demand-1 =
       one-taken-up = take-up-determined;
       one-answered = answer-determined;
       one-collected = collect-determined;
+      table-size = omega arith;
       makes-fresh = made-fresh;
       place-leaves = λ b p n e. place-does b e p n;
       take-up-leaves = λ b e. take-does b e;
@@ -119,10 +125,27 @@ demand-1 =
 
 -- ---- demand 2
 
+-- what is shown of a string, and of a record
+
+string-text : (s : List ℕ) (i : ℕ) (c : List ℕ) → WholeString s i c → textAt s i ≡ c
+string-text s i c w = let e = whole-string-exactly s i c .0 w in rw (e .0) (e .1)
+
+no-string : (s : List ℕ) (i : ℕ) → ((c : List ℕ) → WholeString s i c → ⊥) → textAt s i ≡ []
+no-string s i none = go (isTextAt s i) refl
+  where
+    go : (t : Bool) → isTextAt s i ≡ t → cond t (contentAt s i) [] ≡ []
+    go true e = absurd (none _ (whole-string-exactly s i (contentAt s i) .1 (e, refl)))
+    go false e = refl
+
+record-text : (s : List ℕ) (v : Result Record) (c : Content) → withText s v ≡ done c → textOf s v ≡ c .text
+record-text s (done r) c e = let z : contentOf s r ≡ c = cc in ap (λ x. x .text) z
+record-text s (refused n p) c e = absurd (refused-not-done e)
+
 pub demand-2 : Demand2
 demand-2 =
     record {
       verdict = λ file offsets. (readJob file (length offsets), judged file (length offsets), refl, refl);
+      tokens = tokens-at;
       taken = taken-exactly;
       statements = statements-exactly;
       one-reading = one-reading;
@@ -141,11 +164,15 @@ demand-2 =
       number-is-small = number-is-small;
       minus-zero = λ bs w f n z. minus-zero n z;
       whole-string = whole-string-exactly;
+      text-shown = string-text;
+      no-text-shown = no-string;
       string-token = string-token-exactly;
       write-then-read = λ c out ok room.
           let e = records.lengths c in
           rw e (records.write-then-read commands (omega arith) c out ok (rw (← e) room));
       read-then-write = records.read-then-write commands;
+      record-text-shown = λ c ok. record-text _ _ c (records.read-exactly commands (omega arith) (recordBytes c) c .1 (ok, refl));
+      no-record-text = λ s number place e. rw e;
       record-length = records.lengths;
       name-write-then-read = names.write-then-read;
       name-read-then-write = names.read-then-write;

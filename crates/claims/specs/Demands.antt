@@ -17,7 +17,7 @@ use Rattle.session_name.specs.Name as name
 use Rattle.session_name.specs.declared.Kind.{Kind}
 use Rattle.record.specs.Record.{Content, content, permitted, recordBytes, fixedLength}
 use Rattle.record.specs.Reading as reading
-use Rattle.record.specs.Reading.{recordRead, contentOf, withText}
+use Rattle.record.specs.Reading.{recordRead, contentOf, withText, textOf}
 use Rattle.record.specs.Writing as writing
 use Rattle.record.specs.declared.Record.{Record}
 use Rattle.grammar.specs.Statement.{Statement}
@@ -27,13 +27,13 @@ use Rattle.grammar.specs.Rows.{Three, FourToken, FourEnd, Five, Six}
 use Rattle.token.specs.Token.{WholeString, isTextAt, contentAt, tokenAt, nextToken}
 use Rattle.token.specs.declared.Token.the-variants.{Number, Text}
 use Rattle.number.specs.Number.{Numeral, signedOf, numberOf}
-use Rattle.item.specs.Tokens.{line}
+use Rattle.item.specs.Tokens.{Tokens, lineAt, line}
 use Rattle.item.specs.Numbers.{NumberFrom}
 use Rattle.item.specs.Files.{InFile}
 use Rattle.statement.specs.declared.Statement.{Statement as StatementRead}
 use Rattle.meaning.specs.Paper.{paperStatement}
 use Rattle.job.specs.Job.{readJob, counted, filled, jobSays}
-use Rattle.job.specs.Statement.{placed as placedAt, Tiled, readStatement, statementSays}
+use Rattle.job.specs.Statement.{placed as placedAt, Tiled, readStatement, statementSays, textAt}
 use Rattle.job_claims.specs.Verdict.{Verdict, Taken, Crowded}
 use Rattle.job_claims.specs.Rows.{One}
 use Rattle.sessions.specs.History.{Event, placed, tookUp, answered, collected, collectedAs, placings, accepted, collections}
@@ -42,7 +42,7 @@ use Rattle.sessions.specs.Sound.{isReal}
 use Rattle.sessions.specs.Owed.{ifRoom, owed, Yours}
 use Rattle.sessions.specs.Table.{fresh, place, takeUp, answer, collect, numbered, records}
 use Rattle.sessions.specs.declared.Answer.{Answer}
-use Rattle.table_layout.specs.Layout.{entryAt, answeredAt, handAt, number}
+use Rattle.table_layout.specs.Layout.{tableBytes, entryAt, answeredAt, handAt, number}
 use Rattle.table_sound.specs.Bytes.{abs, soundBytes}
 use Rattle.session_table.specs.Calls.{Beyond, making, madeBytes, placing, placedBytes, takingUp, takenBytes, answering, answeredBytes, inHand, collecting, collectedBytes, collectedOut}
 use Rattle.session_table.specs.Collect.{Collects}
@@ -101,6 +101,8 @@ pub record Demand1 : Type 0 where
   pub one-answered : OneResult (List ℕ) paperAnswered
   pub one-collected : (b : List ℕ) (p t : ℕ) (out : List ℕ) (r r′ : Collected) (exit exit′ out-exit out-exit′ : List ℕ)
       → Collects b p t out r exit out-exit → Collects b p t out r′ exit′ out-exit′ → (r ≡ r′) × (exit ≡ exit′) × (out-exit ≡ out-exit′)
+  -- "a table's size (one size for every MaxSessions, at most 1,048,576 bytes)"
+  pub table-size : tableBytes ≤ 1048576
   -- "A fresh table has no session, last ticket 0, nothing in hand, and 0 comes first in the turn."
   pub makes-fresh : (b : List ℕ) (max : ℕ) → making b max ≡ done tt → abs (madeBytes b max) ≡ fresh max
   -- a call on a sound table leaves what 01 says of the table without bytes, and a sound table
@@ -132,6 +134,8 @@ Reads f = (file offsets : List ℕ) → (x : Reading) × Verdict file (length of
 
 pub record Demand2 : Type 0 where
   pub verdict : Reads λ file offsets. let x = readJob file (length offsets) in (counted x, filled x offsets)
+  -- the tokens of a file from any place on, and what ends them
+  pub tokens : (s : List ℕ) (i : ℕ) → Tokens s i (lineAt s i .tokens) (lineAt s i .last)
   -- "taken when, and only when ..": `Taken` has the offsets of the statements that the grammar gives
   pub taken : (s : List ℕ) (room : ℕ) (os : List ℕ) → readJob s room ≡ done os ↔ Taken s room os
   -- "and its reading is the one the grammar gives": the statements that the productions give, each "read on its own from the place where it begins";
@@ -165,8 +169,11 @@ pub record Demand2 : Type 0 where
   pub number-is-small : (s : List ℕ) (i a b : ℕ) → nextToken s i ≡ Number a b → let n = numberOf (part s a (b - a)) in
       (natAbs (n .mantissa) < 10 ^ 16) × (n .scale ≤ 15)
   pub minus-zero : (bs w f : List ℕ) → Numeral bs false w f → value (w ++ f) ≡ 0 → numberOf (45 ∷ bs) ≡ numberOf bs
-  -- "The text of a quoted string is shown as that part of the file between its quotes." String tokens stand exactly where whole strings do.
+  -- "The text of a quoted string is shown as that part of the file between its quotes. .. where no whole string begins there it shows the empty part, and a
+  -- yes-or-no call tells this from an empty string." String tokens stand exactly where whole strings do.
   pub whole-string : (s : List ℕ) (i : ℕ) (c : List ℕ) → WholeString s i c ↔ ((isTextAt s i ≡ true) × (contentAt s i ≡ c))
+  pub text-shown : (s : List ℕ) (i : ℕ) (c : List ℕ) → WholeString s i c → textAt s i ≡ c
+  pub no-text-shown : (s : List ℕ) (i : ℕ) → ((c : List ℕ) → WholeString s i c → ⊥) → textAt s i ≡ []
   pub string-token : (s : List ℕ) (i a b : ℕ)
       → tokenAt s i ≡ Text a b ↔ ((isTextAt s i ≡ true) × (a ≡ i) × (b ≡ i + length (contentAt s i) + 2))
   -- "Records written and read come back the same, both ways round.": any permitted record, its text included, and any bytes that are one
@@ -175,6 +182,9 @@ pub record Demand2 : Type 0 where
       × (let s = part (writing.writtenBytes commands c out) 0 n in withText s (recordRead commands s) ≡ done c)
   pub read-then-write : (s : List ℕ) (r : Record) (out : List ℕ) → recordRead commands s ≡ done r → length s ≤ length out
       → (writing.written commands (contentOf s r) out ≡ done (length s)) × (part (writing.writtenBytes commands (contentOf s r) out) 0 (length s) ≡ s)
+  -- what is shown of a record is its text, and of other bytes the empty part
+  pub record-text-shown : (c : Content) → permitted commands c ≡ true → textOf (recordBytes c) (recordRead commands (recordBytes c)) ≡ c .text
+  pub no-record-text : (s : List ℕ) (number place : ℕ) → recordRead commands s ≡ refused number place → textOf s (recordRead commands s) ≡ []
   -- "Length: PROCESSED 42, ERROR 50, plus the digits of n and the bytes of text."
   pub record-length : (c : Content) → length (recordBytes c) ≡ fixedLength (c .outcome) + plainWidth (c .number) + length (c .text)
   -- names of session files too

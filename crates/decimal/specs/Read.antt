@@ -1,4 +1,5 @@
--- What the reader of a decimal field answers.
+-- What the reader of a decimal field answers. Need not be believed: `read-done` and `read-back` (`proofs/ReadLaws`) show that it is a number's digits, and
+-- that number, which it takes.
 use Prim.Native.Nat.{ℕ}
 use mathlib.Core.Bool.{cond, _&&_}
 use mathlib.Core.List.{List}

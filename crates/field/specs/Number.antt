@@ -1,4 +1,5 @@
--- A number of k bytes at a place of a list of bytes, low byte first: read, and written.
+-- A number of k bytes at a place of a list of bytes, low byte first: read, and written. Need not be believed: `proofs/Numbers` shows that what is written
+-- is read back, and which bytes stay.
 use Prim.Native.Nat.{ℕ, zero, suc, _+_, _*_, _/_, _%_, _^_}
 use mathlib.Core.List.{List}
 use lib.ListN.{getD, set}

@@ -13,7 +13,9 @@ part s at w = take w (drop at s)
 unfoldable pub put : List ℕ → ℕ → List ℕ → List ℕ
 put d at xs = sets d at xs
 
--- d became e as xs was written from at on, and after is the place after it. It binds functions inside alone: no claim cites it.
+-- ---- Need not be believed: it binds functions inside alone, and no claim cites it
+
+-- d became e as xs was written from at on, and after is the place after it
 pub record Wrote (d : List ℕ) (at : ℕ) (xs e : List ℕ) (after : ℕ) : Type 0 where
   pub next : after ≡ at + length xs
   pub bytes : e ≡ put d at xs

@@ -1,5 +1,5 @@
 -- The classes of token; and the points of a statement (document 01, "The job grammar"): for each, the classes that may stand there, each with
--- the point after it. The points need not be believed: `proofs/Points` shows that they are the productions.
+-- the point after it.
 use Prim.Native.Nat.{ℕ}
 use mathlib.Core.Bool.{Bool, cond}
 use mathlib.Core.List.{List, [], _∷_}
@@ -10,6 +10,8 @@ use lib.Dec.{eqb}
 pub data Class : Type 0 where
   JOB RESPONSE UPLOAD DOWNLOAD GETINFO ABORT REPORT EVENT START ACTIVE IMMEDIATE reserved : Class
   name TIME≥ number date unrealDate time unrealTime string operator semicolon : Class
+
+-- ---- Need not be believed: the points. `proofs/Points` shows that they are the productions.
 
 -- Before a file's first statement, before a later one, before one of any kind; within a statement; after its ; and after a token
 -- that may not stand.
@@ -123,6 +125,8 @@ step q c = look c (next q)
 abbrev pub walk : Point → List Class → Point
 walk q [] = q
 walk q (c ∷ cs) = walk (step q c) cs
+
+-- ---- times and dates by their shape
 
 -- a real one of the same shape
 abbrev pub shape : Class → Class

@@ -1,5 +1,4 @@
--- What ends a file's tokens, and what a reader answers; and the reading of the tokens, from the left, through the points. The reading need not be
--- believed: `proofs/Verdicts` shows that it gives the verdict of `Rows`.
+-- What ends a file's tokens, and what a reader answers; and the reading of the tokens, from the left, through the points.
 use Prim.Native.Nat.{ℕ}
 use mathlib.Core.Bool.{cond}
 use mathlib.Core.List.{List, [], _∷_, _++_}
@@ -20,6 +19,8 @@ pub data Last : Type 0 where
 -- the offsets of the statements, or a refusal
 abbrev pub Answer : Type 0
 Answer = Result (List ℕ)
+
+-- ---- Need not be believed: the reading. `proofs/Verdicts` shows that it gives the verdict of `Rows`.
 
 -- after some tokens: the point, and the offsets of the statements begun; or a refusal
 pub data State : Type 0 where

@@ -136,7 +136,9 @@ pub data After (s : List ℕ) : ℕ → List Placed → ℕ → Type 0 where
   here : {i : ℕ} → After s i [] i
   then : {i e : ℕ} {t : Placed} {a : List Placed} → nextItem s i ≡ item t → After s (t .end) a e → After s i (t ∷ a) e
 
--- the tokens of a file, computed; n bounds how many there are
+-- ---- Need not be believed: the tokens computed. `tokens` of the page of claims says that they are those above.
+
+-- n bounds how many there are
 pub record Line : Type 0 where
   pub tokens : List Placed
   pub last : Last

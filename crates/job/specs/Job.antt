@@ -13,6 +13,8 @@ use Rattle.item.specs.Tokens.{line}
 use Rattle.job.specs.declared.JobAnswer.{JobAnswer}
 use Rattle.job.specs.declared.JobAnswer.the-variants.{Taken, Refused}
 
+-- ---- Need not be believed: the reading. `reads-job` of the page of claims ties it to `Verdict`.
+
 -- 2: "legal job file with more statements than the lent offset table has places"
 abbrev pub onRoom : ℕ → Answer → Answer
 onRoom room (done os) = cond (leb (length os) room) (done os) (refused tooFewPlaces 0)
@@ -23,7 +25,9 @@ onRoom room (refused n p) = refused n p
 unfoldable pub readJob : List ℕ → ℕ → Answer
 readJob s room = cond (leb (length s) fileBytes) (onRoom room (read (line s .tokens) (line s .last))) (refused fileTooLong 0)
 
--- what the call returns: how many statements there are
+-- ---- what the call returns and leaves
+
+-- how many statements there are
 abbrev pub counted : Answer → Result ℕ
 counted (done os) = done (length os)
 counted (refused n p) = refused n p

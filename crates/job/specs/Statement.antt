@@ -27,6 +27,8 @@ use Rattle.job.specs.declared.StatementAnswer.the-variants.{Read, Refuse
 abbrev pub placed : Statement → ℕ → ℕ → StatementAt
 placed x offset next = record { statement = x; offset = offset; next = next }
 
+-- ---- Need not be believed: the reading. `reads-statement` and `reading` of the page of claims tie it to the rows and the productions.
+
 -- the statement that begins with the token at the place p
 abbrev pub onRead : ℕ → StatementRead → Result StatementAt
 onRead p (Is x next) = done (placed x p next)
@@ -43,6 +45,8 @@ readStatement s at =
     cond (leb (length s) fileBytes)
     (cond (leb at (length s)) (statementIn at (drop at s)) (refused outOfRange 0))
     (refused fileTooLong 0)
+
+-- ---- what the calls return, and how statements tile a file
 
 -- the paper's value of each answer of `read_statement`
 abbrev pub statementSays : StatementAnswer → Result StatementAt

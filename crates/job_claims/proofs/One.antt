@@ -21,7 +21,7 @@ use Rattle.statement.proofs.Plain.{Part, partAt}
 use Rattle.statement.proofs.Plain.Part.{whole, stopped}
 use Rattle.statement.proofs.Bridge.{on-token, on-end, on-none}
 use Rattle.item.specs.Tokens.After.{here, then}
-use Rattle.job_claims.specs.Rows.{WholeOne, Opens, One, OneThree, OneFourEnd, OneFourToken, OneFive}
+use Rattle.job_claims.specs.Rows.{WholeOne, Opens, OneThree, OneFourEnd, OneFourToken, OneFive}
 
 walk-append : (q : Point) (k r : List Class) → walk q (k ++ r) ≡ walk (walk q k) r
 walk-append q [] r = refl

@@ -27,6 +27,13 @@ pub record Numeral (bs : List ℕ) (minus : Bool) (w f : List ℕ) : Type 0 wher
   pub some : 1 ≤ length w
   pub few : length w + length f ≤ 16
 
+-- a magnitude with its sign: zero has one sign
+abbrev pub signedOf : Bool → ℕ → ℤ
+signedOf false m = pos m
+signedOf true m = negℤ (pos m)
+
+-- ---- Need not be believed: what the bytes are read as. `number-reads` of the page of claims ties it to `Numeral`.
+
 -- the digits among the bytes: without the sign and the point
 unfoldable pub digitsOf : List ℕ → List ℕ
 digitsOf [] = []
@@ -36,11 +43,6 @@ digitsOf (x ∷ xs) = elim (isDigit x) [ true ↦ x ∷ digitsOf xs | false ↦ 
 unfoldable pub scaleOf : List ℕ → ℕ
 scaleOf [] = 0
 scaleOf (x ∷ xs) = elim (eqb x 46) [ true ↦ length xs | false ↦ scaleOf xs ]
-
--- a magnitude with its sign: zero has one sign
-abbrev pub signedOf : Bool → ℕ → ℤ
-signedOf false m = pos m
-signedOf true m = negℤ (pos m)
 
 unfoldable pub numberOf : List ℕ → Number
 numberOf bs = record { mantissa = signedOf (eqb (getD bs 0 0) 45) (value (digitsOf bs)); scale = scaleOf bs }

@@ -1,5 +1,4 @@
--- What reading a record answers, field by field: where a field is not there, the record is refused. The fields need not be believed: `proofs/RoundTrip`
--- shows that exactly the permitted records' bytes are taken, and as those records.
+-- What reading a record answers, field by field: where a field is not there, the record is refused.
 use Prim.Native.Nat.{ℕ, _+_, _-_, _*_}
 use mathlib.Core.Bool.{cond, _&&_}
 use mathlib.Core.List.{List, []}
@@ -30,8 +29,9 @@ use Rattle.record.specs.declared.OutcomeRead.the-variants.{Found, NoOutc
 use Rattle.record.specs.declared.RecordRead.{RecordRead}
 use Rattle.record.specs.declared.RecordRead.the-variants.{Taken, Refused}
 
--- ---- going on with what a field says, or stopping where it is not there
+-- ---- Need not be believed: the fields. `reads-record` of the page of claims says that exactly the permitted records' bytes are taken, as those records.
 
+-- going on with what a field says, or stopping where it is not there
 abbrev pub onDigits : {R : Type 0} → DigitsRead → R → (ℕ → R) → R
 onDigits (Value v) stop go = go v
 onDigits NotDigits stop go = stop
@@ -48,8 +48,6 @@ onOutcome NoOutcome stop go = stop
 abbrev pub commandSays : CommandRead → FieldRead
 commandSays (Command n) = Field (n .0)
 commandSays NoCommand = NoField
-
--- ---- the fields
 
 -- the number in the w digits that stand after a fixed word at a place
 unfoldable pub fieldAfter : List ℕ → ℕ → List ℕ → ℕ → FieldRead
@@ -93,8 +91,6 @@ timeRead s at =
     onField (fieldAfter s (at + 6) (ascii ":") 2) NoField λ second.
     ifRealTime (hour * 10000 + minute * 100 + second)
 
--- ---- the whole
-
 -- "Any other bytes get 7"
 abbrev pub noRecord : {A : Type 0} → Result A
 noRecord = refused notARecord 0
@@ -121,11 +117,11 @@ recordRead limit s =
     onOutcome (outcomeRead s (8 + plainWidth n)) noRecord λ outcome start.
     textRead s n outcome start
 
+-- ---- what is read, and the paper's number and values of each answer
+
 -- what the record r says that was read from s
 abbrev pub contentOf : List ℕ → Record → Content
 contentOf s r = content (r .number .0) (r .outcome) (part s (r .start) (r .length)) (r .date) (r .time)
-
--- ---- the paper's number and values of each answer
 
 abbrev pub readSays : RecordRead → Result Record
 readSays (Taken r) = done r

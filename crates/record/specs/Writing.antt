@@ -13,6 +13,8 @@ use Rattle.record.specs.Record.{Content, inRange, isReal, recordBytes}
 use Rattle.record.specs.declared.Written.{Written}
 use Rattle.record.specs.declared.Written.the-variants.{Bytes, Refused}
 
+-- ---- Need not be believed: `writes-record` and `record-written` of the page of claims tie them to the rows.
+
 -- "The writer tests number, class, code and text (7), then date and time (5), then room (8)."
 unfoldable pub writeRefusal : ℕ → Content → ℕ → ℕ
 writeRefusal limit c room =
@@ -41,7 +43,8 @@ pub record WroteAfter (d : List ℕ) (at : ℕ) (word : List ℕ) (w n : ℕ) (e
   pub next : after ≡ at + (length word + w)
   pub kept : length e ≡ length d
 
--- the paper's number and values of each answer
+-- ---- the paper's number and values of each answer
+
 abbrev pub writeSays : Written → Result ℕ
 writeSays (Bytes n) = done n
 writeSays (Refused r) = refusedAs r

@@ -34,12 +34,13 @@ isNumericByte b = isWordByte b || eqb b 46 || eqb b 58
 abbrev pub isTextByte : ℕ → Bool
 isTextByte b = within 32 33 b || within 35 254 b
 
+-- ---- Need not be believed: they bind functions inside alone, and no claim cites them
+
 -- what a comment runs over
 abbrev pub isCommentByte : ℕ → Bool
 isCommentByte b = not (isLineEnd b)
 
--- The kinds of which there are runs, by the numbers that code has for them: of a word, of a numeric run, digits, of a string, of a comment.
--- They bind functions inside alone: no claim cites them.
+-- The kinds of which there are runs, by the numbers that code has for them: of a word, of a numeric run, digits, of a string, of a comment
 abbrev pub ofKind : ℕ → ℕ → Bool
 ofKind kind b =
     cond (eqb kind 0) (isWordByte b)

@@ -40,7 +40,9 @@ blankEnd comment s at = at + blank comment (drop at s)
 abbrev pub isWordAt : List ℕ → ℕ → ℕ → List ℕ → Bool
 isWordAt s start end w = eqb (end - start) (length w) && hasAt s start w
 
--- what a scan from at answers: the place e, and where it lies, which callers use. It binds functions inside alone: no claim cites it.
+-- ---- Need not be believed: it binds functions inside alone, and no claim cites it
+
+-- what a scan from at answers: the place e, and where it lies, which callers use
 pub record Reached (s : List ℕ) (at e r : ℕ) : Type 0 where
   pub is : r ≡ e
   pub from : at ≤ r

@@ -1,6 +1,5 @@
 -- The names of session files (document 01, "Session names and table"). Assumes nothing.
 use Prim.Native.Nat.{ℕ}
-use mathlib.Core.Path.{_≡_}
 use mathlib.Core.Bool.{Bool, cond, _&&_}
 use mathlib.Core.List.{List, _++_}
 use lib.Dec.{eqb, leb, ltb}
@@ -34,7 +33,9 @@ nameOf n kind = ascii "SESS" ++ digits 4 n ++ ending kind
 abbrev pub isMax : ℕ → Bool
 isMax max = leb 1 max && leb max sessions
 
--- ---- writing: "tests MaxSessions, then number or name (11), then room (8)"
+-- ---- Need not be believed: writing and reading. `writes-name`, `name-written` and `reads-name` of the page of claims tie them to the rows.
+
+-- "tests MaxSessions, then number or name (11), then room (8)"
 
 unfoldable pub writeRefusal : ℕ → ℕ → ℕ → ℕ
 writeRefusal max n room = cond (isMax max && ltb n max) (cond (leb 12 room) 0 tooLittleRoom) outOfRange
@@ -47,8 +48,7 @@ written max n out = cond (eqb (writeRefusal max n (length out)) 0) (done 12) (re
 unfoldable pub writtenBytes : ℕ → ℕ → Kind → List ℕ → List ℕ
 writtenBytes max n kind out = cond (eqb (writeRefusal max n (length out)) 0) (put out 0 (nameOf n kind)) out
 
--- ---- reading: "tests MaxSessions, then number or name (11)"
-
+-- a name's reading "tests MaxSessions, then number or name (11)"
 abbrev pub noName : Result (ℕ × Kind)
 noName = refused outOfRange 0
 
@@ -78,11 +78,3 @@ readSays (Refused r) = refusedAs r
 abbrev pub writeSays : NameWritten → Result ℕ
 writeSays (Bytes n) = done n
 writeSays (NotWritten r) = refusedAs r
-
--- ---- the contracts of the two calls: the answer, and every lent byte at exit
-
-abbrev pub ReadsName : ℕ → List ℕ → NameRead → Type 0
-ReadsName max name r = readSays r ≡ nameRead max name
-
-abbrev pub WritesName : ℕ → ℕ → Kind → List ℕ → List ℕ → NameWritten → Type 0
-WritesName max n kind entry exit r = (writeSays r ≡ written max n entry) × (exit ≡ writtenBytes max n kind entry)

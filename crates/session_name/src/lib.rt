@@ -10,7 +10,7 @@ ghost use Prim.Native.Nat.{_+_, _≤_, _<_};
 ghost use lib.ListN.{length};
 ghost use Rattle.counts.specs.Refusals.{outOfRange, refusal};
 ghost use Rattle.field.specs.Part.{Wrote};
-ghost use Rattle.session_name.specs.Name.{ending, nameOf, isMax, writeRefusal, kindRead, numberRead, isFramed, readSays, ReadsName, WritesName};
+ghost use Rattle.session_name.specs.Name.{ending, nameOf, isMax, writeRefusal, kindRead, numberRead, isFramed, nameRead, written, writtenBytes, readSays, writeSays};
 
 // A request that a program puts on the share, or the response that the machine puts there.
 pub enum Kind {
@@ -78,7 +78,7 @@ fn number_read(name: &[u8], max: u32, digits: DigitsRead) -> NameRead
 
 // Reads the whole of name as a file name of a table with that MaxSessions.
 pub fn read_name(name: &[u8], max: u32) -> NameRead
-    ensures { λ r. ⌜ ReadsName max (now (name .entry)) r ⌝ }
+    ensures { λ r. ⌜ readSays r ≡ nameRead max (now (name .entry)) ⌝ }
 {
     if is_framed(name, max) {
         number_read(name, max, decimal::digits_at(name, 4, 4))
@@ -123,7 +123,7 @@ fn put_name(out: &mut [u8], number: SessionNumber, kind: Kind) -> usize
 
 // Writes the name of a session's file at the start of out. Every other byte of out stays.
 pub fn write_name(number: SessionNumber, kind: Kind, max: u32, out: &mut [u8]) -> NameWritten
-    ensures { λ r. ⌜ WritesName max (number .0) kind (now (out .entry)) (now (out .exit)) r ⌝ }
+    ensures { λ r. ⌜ (writeSays r ≡ written max (number .0) (now (out .entry))) × (now (out .exit) ≡ writtenBytes max (number .0) kind (now (out .entry))) ⌝ }
 {
     let no = write_refusal(max, number, out.len());
     if no == 0 {

@@ -10,7 +10,7 @@ use Rattle.counts.specs.Limits.{commands, programs, ticketMost}
 use Rattle.counts.specs.Refusals.{allTaken, outOfRange, noTicketLeft, unsound, refusal}
 use Rattle.counts.specs.Result.{done}
 use Rattle.sessions.proofs.Laws.{must-find, refused≢done}
-use Rattle.sessions.specs.Find.{Found, at, orNone, find}
+use Rattle.sessions.specs.Find.{at, orNone}
 use Rattle.sessions.specs.Table.{within, isOpen, place, placeIn}
 use Rattle.table_layout.specs.Layout.{number, maxAt, lastAt}
 use Rattle.table_sound.specs.Bytes.{slotOf, abs, soundBytes}

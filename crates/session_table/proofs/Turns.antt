@@ -1,5 +1,5 @@
 -- Taking up: the ways through its tests, and what it leaves. Assumes nothing.
-use Prim.Native.Nat.{ℕ, _+_, _-_, _≤_, _<_}
+use Prim.Native.Nat.{ℕ, _+_, _-_}
 use mathlib.Core.Path.{_≡_, refl, _∙_, ap, sym, subst}
 use mathlib.Core.Bool.{true, false}
 use mathlib.Core.List.{List}
@@ -9,7 +9,7 @@ use Rattle.counts.specs.Result.{done}
 use Rattle.counts.specs.declared.Refusal.{Refusal}
 use Rattle.sessions.proofs.Laws.{refused≢done}
 use Rattle.sessions.proofs.Loops.{find-at}
-use Rattle.sessions.specs.Find.{Found, none, at, orNone, find}
+use Rattle.sessions.specs.Find.{Found, none, at, orNone}
 use Rattle.sessions.specs.Table.{isWaiting, turn, given, takeNext, takeHand, takeUp}
 use Rattle.table_layout.specs.Layout.{number, maxAt, markAt, handAt, putNumber, headOf}
 use Rattle.table_layout.specs.declared.Head.{Head}

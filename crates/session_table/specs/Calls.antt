@@ -17,6 +17,17 @@ use Rattle.table_layout.specs.declared.Head.{Head}
 use Rattle.table_slot.specs.Slots.{withEntry, slotAt, putSlot}
 use Rattle.table_sound.specs.Bytes.{slotOf, abs, soundBytes}
 
+-- a byte i outside the k numbers of four bytes that stand from the number `from` on
+abbrev pub Beyond : ℕ → ℕ → ℕ → Type 0
+Beyond i from k = (i < 4 * from) ⊎ (4 * (from + k) ≤ i)
+
+-- the session whose command is in hand
+abbrev pub inHand : List ℕ → ℕ
+inHand b = number b handAt - 1
+
+-- ---- Need not be believed: the page of claims ties each answer to its rows (`makes`, `places` and the others) and what is left to the table without
+-- bytes (`makes-fresh`, `place-leaves` and the others).
+
 -- Refusal 13 goes before all others: "lent session table unsound".
 abbrev pub ifSound : {A : Type 0} → List ℕ → Result A → Result A
 ifSound b r = cond (soundBytes b) r (refused unsound 0)
@@ -27,7 +38,7 @@ after (refused number place) b f = b
 after (done x) b f = f x
 
 -- Whether a result is a refusal, and which: what the first half of a call finds. Its number is 0 for none, and none has a place. These two
--- need not be believed: they bind only the halves of a call.
+-- bind only the halves of a call.
 abbrev pub only : {A : Type 0} → Result A → Result (Unit {0})
 only (refused number place) = refused number place
 only (done x) = done tt
@@ -77,13 +88,6 @@ namesHand σ t c (at s) = names (σ .slot s) t c
 -- "Answering changes one slot's entry and the in-hand mark, nothing else."
 unfoldable pub answering : List ℕ → ℕ → ℕ → Answer → Result (Unit {0})
 answering b t c a = ifSound b (answer (abs b) t c a .0)
-
--- a byte i outside the k numbers of four bytes that stand from the number `from` on
-abbrev pub Beyond : ℕ → ℕ → ℕ → Type 0
-Beyond i from k = (i < 4 * from) ⊎ (4 * (from + k) ≤ i)
-
-abbrev pub inHand : List ℕ → ℕ
-inHand b = number b handAt - 1
 
 abbrev pub answeredAs : List ℕ → Answer → List ℕ
 answeredAs b a = putNumber (putSlot b (inHand b) (withEntry (slotAt b (inHand b)) a)) handAt 0

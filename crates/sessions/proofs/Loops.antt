@@ -1,5 +1,5 @@
 -- The laws that a loop cites: over a test of every number below n, over a search for the lowest, over the first n values. Assumes nothing.
-use Prim.Native.Nat.{ℕ, zero, suc, _+_, _≤_, _<_}
+use Prim.Native.Nat.{ℕ, zero, suc, _+_, _<_}
 use mathlib.Core.Path.{_≡_, refl, sym, _∙_, ap}
 use mathlib.Core.Bool.{Bool, true, false, _&&_, and-false, and-true, and-assoc}
 use mathlib.Core.Logic.{⊎-elim}
@@ -8,10 +8,10 @@ use native.Mathlib.Nat.{eq-or-lt-of-le}
 use native.Mathlib.Numerals.{add-one}
 use native.Mathlib.Omega.{arith}
 use lib.ListN.{length, length-append}
-use Rattle.sessions.specs.Find.{Found, none, at, orNone, find, all, first}
+use Rattle.sessions.specs.Find.{Found, none, at, find, all, first}
 use Rattle.sessions.specs.Sound.{isReal, allReal}
 use Rattle.sessions.specs.declared.Answer.{Answer}
-use Rattle.sessions.proofs.Laws.{Search, miss, hit, search-find}
+use Rattle.sessions.proofs.Laws.{Search, hit, search-find}
 
 -- ---- every number below n
 
@@ -52,18 +52,7 @@ find-hit p (suc m) {n} h e l =
 pub find-end : (p : ℕ → Bool) {i n : ℕ} → find i p ≡ none → i ≡ n → find n p ≡ none
 find-end p h e = rw (← e) h
 
--- what a search that ended says
-pub found-at : (f : Found) {n r : ℕ} → r ≡ orNone f n → r < n → f ≡ at r
-found-at none e l = absurd (omega arith)
-found-at (at i) e l = ap at (sym e)
-
-pub found-none : (p : ℕ → Bool) (n : ℕ) {r : ℕ} → r ≡ orNone (find n p) n → n ≤ r → find n p ≡ none
-found-none p n {r} e l = go (find n p) (search-find n p) e
-  where
-    go : (f : Found) → Search n p f → r ≡ orNone f n → f ≡ none
-    go none (miss m) q = refl
-    go (at i) (hit k t m) q = absurd (omega arith)
-
+-- what a search says that found one
 pub find-at : (p : ℕ → Bool) (n : ℕ) {i : ℕ} → find n p ≡ at i → (i < n) × (p i ≡ true)
 find-at p n {i} e = go (find n p) (search-find n p) e
   where

@@ -30,12 +30,9 @@ tableNumbers = headAt sessions
 abbrev pub tableBytes : ℕ
 tableBytes = 4 * tableNumbers
 
--- the number at a place, and a number put there
+-- the number at a place
 unfoldable pub number : List ℕ → ℕ → ℕ
 number b i = getW 4 b (4 * i)
-
-unfoldable pub putNumber : List ℕ → ℕ → ℕ → List ℕ
-putNumber b i v = putW 4 b (4 * i) v
 
 -- ---- the table's own row: MaxSessions, the last ticket, the turn's mark, what is in hand
 
@@ -51,38 +48,10 @@ markAt = 2
 abbrev pub handAt : ℕ
 handAt = 3
 
-unfoldable pub tableOf : List ℕ → Table
-tableOf b =
-    record { max = number b maxAt; last = record { 0 = number b lastAt }; mark = record { 0 = number b markAt }; hand = number b handAt }
-
-unfoldable pub putTable : List ℕ → Table → List ℕ
-putTable b t =
-    putNumber (putNumber (putNumber (putNumber b maxAt (t .max)) lastAt (t .last .0)) markAt (t .mark .0)) handAt (t .hand)
-
--- "A fresh table has no session, last ticket 0, nothing in hand, and 0 comes first in the turn."
-abbrev pub freshTable : ℕ → Table
-freshTable max = record { max = max; last = record { 0 = 0 }; mark = record { 0 = max - 1 }; hand = 0 }
-
 -- ---- a session's head: program, command count, answers so far, ticket
 
 abbrev pub answeredAt : ℕ → ℕ
 answeredAt s = headAt s + 2
-
-unfoldable pub headOf : List ℕ → ℕ → Head
-headOf b s =
-    record {
-      program = number b (headAt s);
-      count = number b (headAt s + 1);
-      answered = number b (answeredAt s);
-      ticket = record { 0 = number b (headAt s + 3) };
-    }
-
-unfoldable pub putHead : List ℕ → ℕ → Head → List ℕ
-putHead b s h =
-    putNumber
-    (putNumber (putNumber (putNumber b (headAt s) (h .program)) (headAt s + 1) (h .count)) (answeredAt s) (h .answered))
-    (headAt s + 3)
-    (h .ticket .0)
 
 -- ---- the answer to a command: its outcome (0 for PROCESSED, one more than the class for ERROR), its code, date and time
 
@@ -104,6 +73,40 @@ entryOf b s c =
       date = number b (entryAt s c + 2);
       time = number b (entryAt s c + 3);
     }
+
+-- ---- Need not be believed: rows as code has them, read and written. `table_sound/proofs/Tells` shows that they tell what the table without bytes
+-- holds; `makes-fresh`, `place-leaves` and the others like it of the page of claims, that what is written is what a call leaves.
+
+unfoldable pub putNumber : List ℕ → ℕ → ℕ → List ℕ
+putNumber b i v = putW 4 b (4 * i) v
+
+unfoldable pub tableOf : List ℕ → Table
+tableOf b =
+    record { max = number b maxAt; last = record { 0 = number b lastAt }; mark = record { 0 = number b markAt }; hand = number b handAt }
+
+unfoldable pub putTable : List ℕ → Table → List ℕ
+putTable b t =
+    putNumber (putNumber (putNumber (putNumber b maxAt (t .max)) lastAt (t .last .0)) markAt (t .mark .0)) handAt (t .hand)
+
+-- "A fresh table has no session, last ticket 0, nothing in hand, and 0 comes first in the turn."
+abbrev pub freshTable : ℕ → Table
+freshTable max = record { max = max; last = record { 0 = 0 }; mark = record { 0 = max - 1 }; hand = 0 }
+
+unfoldable pub headOf : List ℕ → ℕ → Head
+headOf b s =
+    record {
+      program = number b (headAt s);
+      count = number b (headAt s + 1);
+      answered = number b (answeredAt s);
+      ticket = record { 0 = number b (headAt s + 3) };
+    }
+
+unfoldable pub putHead : List ℕ → ℕ → Head → List ℕ
+putHead b s h =
+    putNumber
+    (putNumber (putNumber (putNumber b (headAt s) (h .program)) (headAt s + 1) (h .count)) (answeredAt s) (h .answered))
+    (headAt s + 3)
+    (h .ticket .0)
 
 unfoldable pub putEntry : List ℕ → ℕ → ℕ → Answer → List ℕ
 putEntry b s c a =

@@ -1,4 +1,5 @@
--- A slot with one answer more; the slot that stands in a table's bytes, and a slot put back. Assumes nothing.
+-- A slot with one answer more; the slot that stands in a table's bytes, and a slot put back. Need not be believed: `answer-leaves` and `answer-changes` of
+-- the page of claims say what answering leaves. Assumes nothing.
 use Prim.Native.Nat.{ℕ, _+_}
 use mathlib.Core.List.{List}
 use Rattle.sessions.specs.declared.Answer.{Answer}

@@ -30,6 +30,8 @@ pub record WholeString (s : List ℕ) (i : ℕ) (c : List ℕ) : Type 0 where
   pub few : length c ≤ 255
   pub each : (b : ℕ) → List·Memᴰ b c → (32 ≤ b) × (b ≤ 254) × (b ≡ 34 → ⊥)
 
+-- ---- Need not be believed: whole strings as they are found. `whole-string` and `string-token` of the page of claims tie them to the sentence above.
+
 -- the place where the content of a string ends that opens at i
 abbrev pub contentEnd : List ℕ → ℕ → ℕ
 contentEnd s i = runEnd isTextByte s (i + 1)
@@ -53,6 +55,8 @@ textAt s i =
     cond (isTextAt s i) (Text i (contentEnd s i + 1))
     (cond (contentFits s i && leb (length s) (contentEnd s i)) (Fault OpenString i) (Fault BrokenString i))
 
+-- ---- times
+
 -- two digits at i
 abbrev pub pairAt : List ℕ → ℕ → Bool
 pairAt s i = isDigit (getD s i 0) && isDigit (getD s (i + 1) 0)
@@ -62,12 +66,16 @@ unfoldable pub isTimeAt : List ℕ → ℕ → ℕ → Bool
 isTimeAt s i e =
     eqb (e - i) 8 && pairAt s i && eqb (getD s (i + 2) 0) 58 && pairAt s (i + 3) && eqb (getD s (i + 5) 0) 58 && pairAt s (i + 6)
 
+-- ---- Need not be believed: numbers as they are found. `number-token` of the page of claims ties them to `Numeral`.
+
 -- "Number: 1 to 16 digits in all, with at most one point that has a digit on each side.": from its first digit d to e
 unfoldable pub isNumberAt : List ℕ → ℕ → ℕ → Bool
 isNumberAt s d e =
     cond (eqb (runEnd isDigit s d) e) (leb e (d + numberDigits))
     (eqb (getD s (runEnd isDigit s d) 0) 46 && isDigit (getD s (runEnd isDigit s d + 1) 0) && eqb (runEnd isDigit s (runEnd isDigit s d + 1)) e
     && leb e (d + numberDigits + 1))
+
+-- ---- numeric runs, signs, and which token stands where
 
 -- "It must have one of two shapes.": a numeric run that starts at i and has its first digit at d
 unfoldable pub shapedAt : List ℕ → ℕ → ℕ → Token
@@ -106,6 +114,8 @@ tokenAt s i =
 -- the next token from at on
 unfoldable pub nextToken : List ℕ → ℕ → Token
 nextToken s at = tokenAt s (blankEnd false s at)
+
+-- ---- Need not be believed: it binds functions inside alone, and no claim cites it
 
 -- the bytes of a number from a to b, of which there are at most 18, within the file
 pub record Short (s : List ℕ) (a b : ℕ) : Type 0 where
