@@ -14,7 +14,7 @@ use Rattle.session_name.specs.Name as name
 use Rattle.session_name.specs.declared.Kind.{Kind}
 use Rattle.session_name.proofs.RoundTrip as names
 use Rattle.record.specs.Record.{Content, recordBytes}
-use Rattle.record.specs.Reading.{contentOf, withText, textOf}
+use Rattle.record.specs.Reading.{recordRead, contentOf, withText, textOf}
 use Rattle.record.specs.Writing as writing
 use Rattle.record.specs.declared.Record.{Record}
 use Rattle.record.proofs.RoundTrip as records
@@ -171,7 +171,7 @@ demand-2 =
           let e = records.lengths c in
           rw e (records.write-then-read commands (omega arith) c out ok (rw (← e) room));
       read-then-write = records.read-then-write commands;
-      record-text-shown = λ c ok. record-text _ _ c (records.read-exactly commands (omega arith) (recordBytes c) c .1 (ok, refl));
+      record-text-shown = λ c ok. let s = recordBytes c in record-text s (recordRead commands s) c (records.read-exactly commands (omega arith) s c .1 (ok, refl));
       no-record-text = λ s number place e. rw e;
       record-length = records.lengths;
       name-write-then-read = names.write-then-read;
