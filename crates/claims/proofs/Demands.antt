@@ -1,8 +1,9 @@
 -- The first two demands hold, from the crates below; the third is in `Demand3`. Assumes nothing.
 use Prim.Native.Nat.{ℕ}
-use mathlib.Core.Path.{_≡_, refl, ap}
+use mathlib.Core.Path.{_≡_, refl, sym, ap, _∙_}
 use mathlib.Core.Bool.{Bool, true, false, cond}
 use mathlib.Core.List.{List, []}
+use native.Mathlib.Nat.{zero-add}
 use native.Mathlib.Omega.{arith}
 use lib.Dec.{eqb}
 use lib.ListN.{length}
@@ -10,6 +11,7 @@ use Rattle.counts.specs.Limits.{commands, sessions}
 use Rattle.counts.proofs.Results.{passed, refused-not-done}
 use Rattle.counts.specs.Result.{Result, refused, done}
 use Rattle.field.specs.Part.{put}
+use Rattle.field.proofs.Put.{put-eq}
 use Rattle.session_name.specs.Name as name
 use Rattle.session_name.specs.declared.Kind.{Kind}
 use Rattle.session_name.proofs.RoundTrip as names
@@ -20,6 +22,7 @@ use Rattle.record.specs.declared.Record.{Record}
 use Rattle.record.proofs.RoundTrip as records
 use Rattle.grammar.specs.Reading.{Answer as Reading}
 use Rattle.item.proofs.Lines.{tokens-at}
+use Rattle.item.proofs.Moments.{date-says, no-other-date, time-says}
 use Rattle.item.proofs.Spelled.{in-file-exactly}
 use Rattle.job.specs.Job.{readJob, filled}
 use Rattle.job.specs.Statement.{textAt}
@@ -67,6 +70,11 @@ name-stands max n k kind out = wrote (name.writeRefusal max n (length out)) _ k 
 record-stands : (c : Content) (out : List ℕ) (k : ℕ) → writing.written commands c out ≡ done k → writing.writtenBytes commands c out ≡ put out 0 (recordBytes c)
 unfolding writing.written writing.writtenBytes
 record-stands c out k = wrote (writing.writeRefusal commands c (length out)) _ k _ out
+
+offsets-stand : (file offsets os : List ℕ) → let x = readJob file (length offsets) in x ≡ done os → filled x offsets ≡ put offsets 0 os
+offsets-stand file offsets os e =
+    let fits = taken-exactly file (length offsets) os .0 e .fits in
+    rw e (sym (put-eq offsets 0 os (omega (arith, fits)) ∙ rw zero-add))
 
 pub demand-1 : Demand1
 unfolding collectedOut
@@ -117,6 +125,7 @@ demand-1 =
       answer-leaves = λ b t c a e. answer-does b e t c a;
       collect-leaves = λ b p t out e. collect-does b e p t out;
       leaves-sound = λ b c e q. keeps b e c q;
+      offsets-written = offsets-stand;
       name-written = name-stands;
       record-written = record-stands;
       reply-written = λ b p t out reply e. rw e;
@@ -163,6 +172,9 @@ demand-2 =
       number-reads = λ bs minus w f n. numeral-reads n;
       number-is-small = number-is-small;
       minus-zero = λ bs w f n z. minus-zero n z;
+      date-says = λ s ys a n l e. let d = date-says s ys a n l e in (d .class, d .value);
+      no-other-date = no-other-date;
+      time-says = time-says;
       whole-string = whole-string-exactly;
       text-shown = string-text;
       no-text-shown = no-string;

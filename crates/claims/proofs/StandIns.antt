@@ -7,7 +7,7 @@ use native.Mathlib.Omega.{arith}
 use lib.ListN.{length, length-append, replicate, length-replicate}
 use borrow.Author.Tests.{eq-eqb, le-leb}
 use Rattle.calendar.specs.Calendar.{februaryLength, monthLength, realDate, realTime}
-use Rattle.counts.specs.Result.{Result, done}
+use Rattle.counts.specs.Result.{Result, done, counted}
 use Rattle.counts.proofs.Results.{refused-not-done}
 use Rattle.decimal.specs.Digits.{digits, widthFrom, plainWidth, plain}
 use Rattle.field.specs.Bytes.{ascii, same, hasAt}
@@ -20,7 +20,7 @@ use Rattle.grammar.specs.Reading.{read}
 use Rattle.statement.specs.Statement.{oneOf, ending, infoFile, jobName, jobResponse, jobFile, statementOf}
 use Rattle.statement.specs.declared.Statement.{Statement}
 use Rattle.statement.specs.declared.Statement.the-variants.{Job, GetInfo}
-use Rattle.job.specs.Job.{counted, readJob}
+use Rattle.job.specs.Job.{readJob}
 use Rattle.job.specs.Statement.{placed as placedAt, readStatement}
 use Rattle.job_claims.proofs.Claims.{only}
 use Rattle.record.specs.Record.{isReal, momentBytes, recordBytes}

@@ -9,7 +9,7 @@ use lib.ListN.{length, getD}
 use borrow.Author.Tests.{lt-leb}
 use Rattle.calendar.specs.Calendar.{februaryLength, monthLength, realDate, realTime}
 use Rattle.counts.specs.Refusals.{unexpected, outOfRange, allTaken, notTheOne, nothingUnanswered}
-use Rattle.counts.specs.Result.{Result, refused, done}
+use Rattle.counts.specs.Result.{Result, refused, done, counted}
 use Rattle.counts.proofs.Results.{refused-not-done}
 use Rattle.decimal.specs.Digits.{digits, widthFrom, plainWidth, plain}
 use Rattle.grammar.specs.Reading.{Answer as Reading}
@@ -24,7 +24,6 @@ use Rattle.sessions.specs.History.{Event, made, placed, tookUp, answered, colle
 use Rattle.sessions.specs.Table.{fresh as freshState, isOpen, isWaiting, names, numbered, records, placeIn, place, takeNext, takeHand, takeUp, answerHand, answer}
 use Rattle.sessions.specs.declared.Answer.{Answer}
 use Rattle.session_table.specs.Calls.{freshBytes, placing, placedBytes, collectedOut}
-use Rattle.session_table.specs.Collect.{lengthOf}
 use Rattle.session_histories.specs.Runs.{Call, toMake, toPlace, toTakeUp, toAnswer, toCollect, Step, stepBytes, bytesAfter, historyOf, neverAnew}
 use Rattle.claims.specs.Demands.{Reader}
 use Rattle.claims.specs.StandIns.{Request, Run, historyBy, SaysAccepted, DoesNothing, PlacesByRows, Invented, Invents, HandsOver, HoldsBack, MakesUpCount, StatementReader, OneStatement, Exhibited}
@@ -289,7 +288,7 @@ hands-over =
       output = output;
       length-given = length (records (numbered 1 (processed ∷ [])));
       exit = left-over;
-      given = ap (λ (r : Result (List ℕ)). collected 1 1 output (lengthOf r) left-over) hands-over-first;
+      given = ap (λ (r : Result (List ℕ)). collected 1 1 output (counted r) left-over) hands-over-first;
     }
 
 -- ---- a reader that takes what it should, and says that there is one statement

@@ -1,18 +1,20 @@
 -- What is claimed: the user's three demands, each a record whose fields are its claims, under the sentences that they say. `proofs/Demands` gives one
 -- of each. The words are those that the contracts of the public calls cite (docs/CALLS.md); that a call ends, for all bytes and numbers, and meets its
 -- contract, is what the prover shows of every function. Assumes nothing.
-use Prim.Native.Nat.{ℕ, _+_, _-_, _^_, _≤_, _<_}
+use Prim.Native.Nat.{ℕ, _+_, _-_, _*_, _^_, _≤_, _<_}
 use mathlib.Core.Path.{_≡_}
-use mathlib.Core.Bool.{Bool, true, false}
+use mathlib.Core.Bool.{Bool, true, false, cond}
 use mathlib.Core.List.{List, [], _∷_, _++_}
 use mathlib.Core.Logic.{_↔_, _⊎_}
 use lib.IntN.{natAbs}
-use lib.ListN.{length, getD}
+use lib.ListN.{length, getD, drop}
 use Rattle.counts.specs.Limits.{fileBytes, commands, sessions}
 use Rattle.counts.specs.Refusals.{fileTooLong, tooFewPlaces, noToken, unexpected, notReal, tooManyStatements, unsound}
-use Rattle.counts.specs.Result.{Result, refused, done}
+use Rattle.counts.specs.Result.{Result, refused, done, counted}
+use Rattle.field.specs.Bytes.{ascii}
 use Rattle.field.specs.Part.{part, put}
-use Rattle.decimal.specs.Digits.{value, plainWidth}
+use Rattle.calendar.specs.Calendar.{realDate}
+use Rattle.decimal.specs.Digits.{digits, value, plainWidth}
 use Rattle.session_name.specs.Name as name
 use Rattle.session_name.specs.declared.Kind.{Kind}
 use Rattle.record.specs.Record.{Content, content, permitted, recordBytes, fixedLength}
@@ -20,6 +22,7 @@ use Rattle.record.specs.Reading as reading
 use Rattle.record.specs.Reading.{recordRead, contentOf, withText, textOf}
 use Rattle.record.specs.Writing as writing
 use Rattle.record.specs.declared.Record.{Record}
+use Rattle.grammar.specs.Grammar.Class.{number as noDate, date, unrealDate}
 use Rattle.grammar.specs.Statement.{Statement}
 use Rattle.grammar.specs.Productions.{Placed, File, Begins}
 use Rattle.grammar.specs.Reading.{Answer as Reading}
@@ -27,12 +30,12 @@ use Rattle.grammar.specs.Rows.{Three, FourToken, FourEnd, Five, Six}
 use Rattle.token.specs.Token.{WholeString, isTextAt, contentAt, tokenAt, nextToken}
 use Rattle.token.specs.declared.Token.the-variants.{Number, Text}
 use Rattle.number.specs.Number.{Numeral, signedOf, numberOf}
-use Rattle.item.specs.Tokens.{Tokens, lineAt, line}
+use Rattle.item.specs.Tokens.{numberClass, dateNumber, timeNumber, Tokens, lineAt, line}
 use Rattle.item.specs.Numbers.{NumberFrom}
 use Rattle.item.specs.Files.{InFile}
 use Rattle.statement.specs.declared.Statement.{Statement as StatementRead}
 use Rattle.meaning.specs.Paper.{paperStatement}
-use Rattle.job.specs.Job.{readJob, counted, filled, jobSays}
+use Rattle.job.specs.Job.{readJob, filled, jobSays}
 use Rattle.job.specs.Statement.{placed as placedAt, Tiled, readStatement, statementSays, textAt}
 use Rattle.job_claims.specs.Verdict.{Verdict, Taken, Crowded}
 use Rattle.job_claims.specs.Rows.{One}
@@ -112,7 +115,9 @@ pub record Demand1 : Type 0 where
   pub collect-leaves : (b : List ℕ) (p t : ℕ) (out : List ℕ) → soundBytes b ≡ true
       → abs (collectedBytes b p t (length out)) ≡ collect (abs b) p t (length out) .1
   pub leaves-sound : (b : List ℕ) (c : Call) → soundBytes b ≡ true → makesAnew c ≡ false → soundBytes (stepBytes b c .1) ≡ true
-  -- "On success, places beyond those written stay.": a name, a record, a reply ("all records in order") stands at the start of the output
+  -- "On success, places beyond those written stay.": a name, a record, a reply ("all records in order") stands at the start of the output, the offsets at
+  -- the start of their table
+  pub offsets-written : (file offsets os : List ℕ) → let x = readJob file (length offsets) in x ≡ done os → filled x offsets ≡ put offsets 0 os
   pub name-written : (max n k : ℕ) (kind : Kind) (out : List ℕ) → name.written max n out ≡ done k → name.writtenBytes max n kind out ≡ put out 0 (name.nameOf n kind)
   pub record-written : (c : Content) (out : List ℕ) (k : ℕ) → writing.written commands c out ≡ done k → writing.writtenBytes commands c out ≡ put out 0 (recordBytes c)
   pub reply-written : (b : List ℕ) (p t : ℕ) (out reply : List ℕ) → collecting b p t (length out) ≡ done reply → collectedOut b p t out ≡ put out 0 reply
@@ -169,6 +174,12 @@ pub record Demand2 : Type 0 where
   pub number-is-small : (s : List ℕ) (i a b : ℕ) → nextToken s i ≡ Number a b → let n = numberOf (part s a (b - a)) in
       (natAbs (n .mantissa) < 10 ^ 16) × (n .scale ≤ 15)
   pub minus-zero : (bs w f : List ℕ) → Numeral bs false w f → value (w ++ f) ≡ 0 → numberOf (45 ∷ bs) ≡ numberOf bs
+  -- "A date is eight bare digits yyyymmdd", real or not, and no other number is one; a time is "dd:dd:dd": they say what their digits are
+  pub date-says : (s ys : List ℕ) (a n : ℕ) → n < 10 ^ 8 → drop a s ≡ digits 8 n ++ ys
+      → (numberClass s a (a + 8) ≡ cond (realDate n) date unrealDate) × (dateNumber s a (a + 8) ≡ n)
+  pub no-other-date : (s : List ℕ) (a b : ℕ) → ((n : ℕ) → n < 10 ^ 8 → b ≡ a + 8 → part s a 8 ≡ digits 8 n → ⊥) → numberClass s a b ≡ noDate
+  pub time-says : (s ys : List ℕ) (a h m k : ℕ) → h < 100 → m < 100 → k < 100
+      → drop a s ≡ digits 2 h ++ (ascii ":" ++ (digits 2 m ++ (ascii ":" ++ (digits 2 k ++ ys)))) → timeNumber s a ≡ h * 10000 + m * 100 + k
   -- "The text of a quoted string is shown as that part of the file between its quotes. .. where no whole string begins there it shows the empty part, and a
   -- yes-or-no call tells this from an empty string." String tokens stand exactly where whole strings do.
   pub whole-string : (s : List ℕ) (i : ℕ) (c : List ℕ) → WholeString s i c ↔ ((isTextAt s i ≡ true) × (contentAt s i ≡ c))

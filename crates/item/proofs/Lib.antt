@@ -8,3 +8,4 @@ pub mod Shows
 pub mod Tells
 pub mod NumeralTokens
 pub mod NumberTokens
+pub mod Moments

@@ -9,11 +9,11 @@ use lib.ListN.{length, take, drop}
 use lib.Seq.{length-take-le}
 use Rattle.counts.specs.Limits.{fileBytes, statements}
 use Rattle.counts.specs.Refusals.{fileTooLong, tooFewPlaces}
-use Rattle.counts.specs.Result.{Result}
+use Rattle.counts.specs.Result.{Result, counted}
 use Rattle.counts.specs.Result.Result.{refused, done}
 use Rattle.grammar.specs.Reading.{Answer}
 use Rattle.item.proofs.Lines.{line-tokens}
-use Rattle.job.specs.Job.{onRoom, readJob, counted, filled}
+use Rattle.job.specs.Job.{onRoom, readJob, filled}
 use Rattle.job.specs.Loop.{jobLoop, foundOf}
 use Rattle.job.specs.declared.Found.{Found}
 use Rattle.job.proofs.Bridge.{by-statements}

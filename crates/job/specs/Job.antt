@@ -27,11 +27,6 @@ readJob s room = cond (leb (length s) fileBytes) (onRoom room (read (line s .tok
 
 -- ---- what the call returns and leaves
 
--- how many statements there are
-abbrev pub counted : Answer → Result ℕ
-counted (done os) = done (length os)
-counted (refused n p) = refused n p
-
 -- "The caller lends a table that receives each statement's offset." "A refusal ... changes no lent byte or entry. On success, places beyond
 -- those written stay."
 abbrev pub filled : Answer → List ℕ → List ℕ

@@ -25,8 +25,9 @@ ghost use Prim.Native.Nat.{_+_, _≤_};
 ghost use lib.ListN.{length, take, drop};
 ghost use Rattle.counts.specs.Limits.{fileBytes, statements};
 ghost use Rattle.counts.specs.Refusals.{refusal};
+ghost use Rattle.counts.specs.Result.{counted};
 ghost use Rattle.token.specs.Token.{isTextAt};
-ghost use Rattle.job.specs.Job.{readJob, counted, filled, jobSays};
+ghost use Rattle.job.specs.Job.{readJob, filled, jobSays};
 ghost use Rattle.job.specs.Statement.{onRead, statementIn, readStatement, statementSays, textAt};
 ghost use Rattle.job.specs.Loop.{stop, stepRead, stepInto, stepOf, jobLoop, foundOf};
 

@@ -5,10 +5,10 @@ use mathlib.Core.Path.{_≡_, sym, _∙_, ap}
 use mathlib.Core.List.{List}
 use lib.ListN.{length}
 use Rattle.counts.proofs.Results.{refused-not-done, same-refusal}
-use Rattle.counts.specs.Result.{Result}
+use Rattle.counts.specs.Result.{Result, counted}
 use Rattle.counts.specs.Result.Result.{refused}
 use Rattle.grammar.specs.Reading.{Answer}
-use Rattle.job.specs.Job.{readJob, counted, filled, jobSays}
+use Rattle.job.specs.Job.{readJob, filled, jobSays}
 use Rattle.job.specs.Statement.{statementSays}
 use Rattle.job.specs.declared.StatementAt.{StatementAt}
 use Rattle.job.specs.declared.JobAnswer.{JobAnswer}

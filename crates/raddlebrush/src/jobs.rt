@@ -6,8 +6,9 @@ use job::JobAnswer;
 use job::StatementAnswer;
 ghost use mathlib.Core.Path.{_≡_};
 ghost use lib.ListN.{length};
+ghost use Rattle.counts.specs.Result.{counted};
 ghost use Rattle.token.specs.Token.{isTextAt};
-ghost use Rattle.job.specs.Job.{readJob, counted, filled, jobSays};
+ghost use Rattle.job.specs.Job.{readJob, filled, jobSays};
 ghost use Rattle.job.specs.Statement.{readStatement, statementSays, textAt};
 ghost use Rattle.raddlebrush.specs.Returned.{GivesCount, GivesStatement};
 

@@ -10,9 +10,9 @@ use session_table::Placed;
 use session_table::TakenUp;
 ghost use mathlib.Core.Path.{_≡_};
 ghost use lib.ListN.{length};
+ghost use Rattle.counts.specs.Result.{counted};
 ghost use Rattle.session_table.specs.Paper.{paperMade, paperPlaced, paperTakenUp, paperAnswered, paperCollected};
 ghost use Rattle.session_table.specs.Calls.{making, madeBytes, placing, placedBytes, takingUp, takenBytes, answering, answeredBytes, collecting, collectedBytes, collectedOut};
-ghost use Rattle.session_table.specs.Collect.{lengthOf};
 ghost use Rattle.raddlebrush.specs.Records.{answerOf};
 ghost use Rattle.raddlebrush.specs.Returned.{returned, GivesCount, GivesPlaced, GivesTaken};
 
@@ -140,7 +140,7 @@ pub extern "C" fn rb_collect(
     out: &mut [u8],
     count: &mut usize,
 ) -> u32
-    ensures { λ r. ⌜ GivesCount (lengthOf (collecting (now (table .entry)) program ticket (length (now (out .entry))))) r (now (count .entry)) (now (count .exit))
+    ensures { λ r. ⌜ GivesCount (counted (collecting (now (table .entry)) program ticket (length (now (out .entry))))) r (now (count .entry)) (now (count .exit))
         × (now (table .exit) ≡ collectedBytes (now (table .entry)) program ticket (length (now (out .entry))))
         × (now (out .exit) ≡ collectedOut (now (table .entry)) program ticket (now (out .entry))) ⌝ }
 {

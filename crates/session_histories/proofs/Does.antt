@@ -11,7 +11,7 @@ use lib.Dec.{eqb}
 use lib.ListN.{length}
 use Rattle.counts.specs.Limits.{commands, programs, sessions, ticketMost}
 use Rattle.counts.specs.Refusals.{outOfRange}
-use Rattle.counts.specs.Result.{Result, refused, done}
+use Rattle.counts.specs.Result.{Result, refused, done, counted}
 use Rattle.field.proofs.Put.{put-eq}
 use Rattle.field.specs.Part.{put}
 use Rattle.sessions.proofs.Did.{Did, nothing, no-make, other-make, did-place, did-take-up, did-answer, did-collect}
@@ -29,7 +29,6 @@ use Rattle.session_table.proofs.Hands.{hand-empty, hand-full}
 use Rattle.session_table.proofs.Placing.{openIn, Placeable, placeable, place-leaves as placing-leaves}
 use Rattle.session_table.proofs.Turns.{nextIn, next-found, next-waits, next-leaves, again-leaves}
 use Rattle.session_table.specs.Calls.{only, after, making, madeBytes, placing, placedAt, placedBytes, takingUp, takenAt, takenBytes, answering, answeredAs, answeredBytes, collecting, collectedAt, collectedBytes, collectedOut, readyIn, inHand}
-use Rattle.session_table.specs.Collect.{lengthOf}
 use Rattle.table_layout.proofs.Numbers.{length-putNumber}
 use Rattle.table_layout.specs.Layout.{maxAt, lastAt, markAt, handAt, number, putNumber, putHead, putEntry}
 use Rattle.table_search.proofs.Sounds.{sound-size, sound-table, waits, hand-waits}
@@ -155,7 +154,7 @@ module _ (b : List ℕ) (e : soundBytes b ≡ true) where
         rw (← (done-same (collect-done b p t room w (w .number-ready) found ∙ q))) (w .room-enough)
 
     written-out : (r : Result (List ℕ)) → ((x : List ℕ) → r ≡ done x → length x ≤ room)
-        → collected p t out (lengthOf r) (after r out (λ x. put out 0 x)) ≡ collectedAs p t out r
+        → collected p t out (counted r) (after r out (λ x. put out 0 x)) ≡ collectedAs p t out r
     written-out (refused k i) f = refl
     written-out (done x) f = ap (collected p t out (done (length x))) (put-eq out 0 x (omega (arith, f x refl)) ∙ rw zero-add)
 

@@ -7,9 +7,8 @@ use lib.Dec.{eqb}
 use lib.ListN.{length}
 use Rattle.counts.specs.Limits.{programs, sessions}
 use Rattle.counts.specs.Refusals.{notTheOne}
-use Rattle.counts.specs.Result.{Result, refused, done}
+use Rattle.counts.specs.Result.{Result, refused, done, counted}
 use Rattle.session_table.specs.Calls.{making, madeBytes, placing, placedBytes, takingUp, takenBytes, answering, answeredBytes, collecting, collectedBytes, collectedOut}
-use Rattle.session_table.specs.Collect.{lengthOf}
 use Rattle.sessions.specs.Table.{within}
 use Rattle.sessions.specs.declared.Answer.{Answer}
 use Rattle.sessions.specs.History.{Lent, itself, other, Event, made, placed, tookUp, answered, collected}
@@ -35,7 +34,7 @@ stepBytes b (toPlace p n) = (placed p n (placing b p n), placedBytes b p n)
 stepBytes b toTakeUp = (tookUp (takingUp b), takenBytes b)
 stepBytes b (toAnswer t c a) = (answered t c a (answering b t c a), answeredBytes b t c a)
 stepBytes b (toCollect p t out) =
-    (collected p t out (lengthOf (collecting b p t (length out))) (collectedOut b p t out), collectedBytes b p t (length out))
+    (collected p t out (counted (collecting b p t (length out))) (collectedOut b p t out), collectedBytes b p t (length out))
 
 -- The table's bytes after the calls, and the calls with their answers.
 unfoldable pub bytesAfter : List ℕ → Step → List Call → List ℕ

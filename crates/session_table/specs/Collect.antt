@@ -3,17 +3,12 @@ use Prim.Native.Nat.{ℕ}
 use mathlib.Core.Path.{_≡_}
 use mathlib.Core.List.{List}
 use lib.ListN.{length}
-use Rattle.counts.specs.Result.{Result, refused, done}
+use Rattle.counts.specs.Result.{counted}
 use Rattle.session_table.specs.Calls.{collecting, collectedBytes, collectedOut}
 use Rattle.session_table.specs.Paper.{paperCollected}
 use Rattle.session_table.specs.declared.Collected.{Collected}
 
--- how many bytes a reply is
-abbrev pub lengthOf : Result (List ℕ) → Result ℕ
-lengthOf (refused number place) = refused number place
-lengthOf (done reply) = done (length reply)
-
 pub record Collects (b : List ℕ) (p t : ℕ) (out : List ℕ) (r : Collected) (b-exit out-exit : List ℕ) : Type 0 where
-  pub answer : paperCollected r ≡ lengthOf (collecting b p t (length out))
+  pub answer : paperCollected r ≡ counted (collecting b p t (length out))
   pub table : b-exit ≡ collectedBytes b p t (length out)
   pub output : out-exit ≡ collectedOut b p t out
