@@ -9,5 +9,7 @@ pub mod Fits
 pub mod Computed
 pub mod Demand3
 pub mod Demands
+pub mod StandInReaders
 pub mod StandIns
+pub mod StandInIdle
 pub mod StandInsAre

@@ -1,5 +1,5 @@
 -- Each stand-in is one that there is: a function that does what document 01's sentence says, without the demand. Assumes nothing.
-use Prim.Native.Nat.{ℕ, _+_, _≤_}
+use Prim.Native.Nat.{ℕ}
 use mathlib.Core.Path.{_≡_, refl, sym, ap, _∙_}
 use mathlib.Core.Bool.{Bool, true, cond}
 use mathlib.Core.List.{List, [], _∷_}
@@ -8,109 +8,22 @@ use lib.Dec.{leb}
 use lib.ListN.{length, getD}
 use borrow.Author.Tests.{lt-leb}
 use Rattle.calendar.specs.Calendar.{februaryLength, monthLength, realDate, realTime}
-use Rattle.counts.specs.Refusals.{unexpected, outOfRange, allTaken, notTheOne, nothingUnanswered}
+use Rattle.counts.specs.Refusals.{unexpected, allTaken, notTheOne, nothingUnanswered}
 use Rattle.counts.specs.Result.{Result, refused, done, counted}
-use Rattle.counts.proofs.Results.{refused-not-done}
 use Rattle.decimal.specs.Digits.{digits, widthFrom, plainWidth, plain}
-use Rattle.grammar.specs.Reading.{Answer as Reading}
-use Rattle.job.specs.Job.{readJob, filled}
-use Rattle.job.specs.Statement.{placed as placedAt}
-use Rattle.job.specs.declared.StatementAt.{StatementAt}
 use Rattle.statement.specs.declared.Statement.the-variants.{GetInfo}
 use Rattle.record.specs.Record.{isReal, momentBytes, recordBytes}
-use Rattle.record.specs.declared.Outcome.the-variants.{Error}
 use Rattle.sessions.specs.Find.{find, put}
 use Rattle.sessions.specs.History.{Event, made, placed, tookUp, answered, collected, written, gather, collection, accepted}
 use Rattle.sessions.specs.Table.{fresh as freshState, isOpen, isWaiting, names, numbered, records, placeIn, place, takeNext, takeHand, takeUp, answerHand, answer}
 use Rattle.sessions.specs.declared.Answer.{Answer}
 use Rattle.session_table.specs.Calls.{freshBytes, placing, placedBytes, collectedOut}
 use Rattle.session_histories.specs.Runs.{Call, toMake, toPlace, toTakeUp, toAnswer, toCollect, Step, stepBytes, bytesAfter, historyOf, neverAnew}
-use Rattle.claims.specs.Demands.{Reader}
-use Rattle.claims.specs.StandIns.{Request, Run, historyBy, SaysAccepted, DoesNothing, PlacesByRows, Invented, Invents, HandsOver, HoldsBack, MakesUpCount, StatementReader, OneStatement, Exhibited}
+use Rattle.claims.specs.StandIns.{Request, Run, historyBy, SaysAccepted, Invented, Invents, HandsOver, HoldsBack, Exhibited}
 use Rattle.claims.proofs.Computed.{step as stepWithout, table, history, computed}
-use Rattle.claims.proofs.Demand1Table.{place-exactly}
-use Rattle.claims.proofs.StandIns.{processed, output, answering-one, kept, hands-over-first, same-done}
-
-abbrev of-two : (calls : List Call) → neverAnew calls ≡ true → Run
-of-two calls kept = record { max = 2; low = omega arith; high = omega arith; calls = calls; kept = kept }
-
--- an answer with another record than `processed`
-abbrev failed : Answer
-failed = record { outcome = Error 6 16; date = 20240430; time = 235959 }
-
-differ : length (records (numbered 1 (processed ∷ []))) ≡ length (records (numbered 1 (failed ∷ []))) → ⊥
-unfolding numbered records digits widthFrom plainWidth plain momentBytes recordBytes
-differ e = omega arith
-
-short : length (records (numbered 1 (processed ∷ []))) ≤ length output
-unfolding numbered records digits widthFrom plainWidth plain momentBytes recordBytes
-short = omega arith
-
--- ---- a table that does nothing, and says that it accepts
-
-idle : Step
-idle b (toMake m max) = (made m max (refused outOfRange 0), b)
-idle b (toPlace p n) = (placed p n (done (0, 1)), b)
-idle b toTakeUp = (tookUp (done (0, 1, 1)), b)
-idle b (toAnswer t c a) = (answered t c a (done tt), b)
-idle b (toCollect p t out) = (collected p t out (done 0) out, b)
-
-idles : DoesNothing idle
-unfolding idle
-idles b (toMake m max) = refl
-idles b (toPlace p n) = refl
-idles b toTakeUp = refl
-idles b (toAnswer t c a) = refl
-idles b (toCollect p t out) = refl
-
-idle-calls : Answer → List Call
-idle-calls a = toAnswer 1 1 a ∷ toTakeUp ∷ toPlace 1 1 ∷ []
-
-idle-kept : (a : Answer) → neverAnew (idle-calls a) ≡ true
-unfolding idle-calls neverAnew
-idle-kept a = refl
-
-idle-run : Answer → Run
-idle-run a = record { max = 1; low = omega arith; high = omega arith; calls = idle-calls a; kept = idle-kept a }
-
-idle-stands : (a : Answer) → Request (historyBy (λ max. []) idle (idle-run a)) 1 1 (a ∷ [])
-unfolding historyOf bytesAfter idle idle-calls idle-run accepted numbered gather collection
-idle-stands a =
-    record {
-      number = 0;
-      later = answered 1 1 a (done tt) ∷ tookUp (done (0, 1, 1)) ∷ [];
-      earlier = [];
-      was-placed = refl;
-      so-far = refl;
-      last = a;
-      newer = [];
-      older = tookUp (done (0, 1, 1)) ∷ [];
-      last-answered = refl;
-      not-collected = refl;
-    }
-
-idle-accepts : SaysAccepted (λ max. []) idle 1 1
-unfolding idle-run
-idle-accepts =
-    record {
-      these = processed ∷ [];
-      those = failed ∷ [];
-      run = idle-run processed;
-      other = idle-run failed;
-      one-max = refl;
-      so = idle-stands processed;
-      or-so = idle-stands failed;
-      they-differ = differ;
-    }
-
--- ---- one that answers as it should, and does nothing
-
-answers-only : Step
-answers-only b c = (stepBytes b c .0, b)
-
-only-answers : PlacesByRows answers-only
-unfolding answers-only stepBytes
-only-answers b p n = (placing b p n, place-exactly b p n .0, refl)
+use Rattle.claims.proofs.StandIns.{processed, output, answering-one, kept, hands-over-first}
+use Rattle.claims.proofs.StandInReaders.{counts-one, makes-up, getinfo, only-getinfo}
+use Rattle.claims.proofs.StandInIdle.{of-two, failed, differ, short, idle, idles, idle-accepts, answers-only, leaves-all, only-answers}
 
 -- ---- tables that do what they should but for collections
 
@@ -291,34 +204,7 @@ hands-over =
       given = ap (λ (r : Result (List ℕ)). collected 1 1 output (counted r) left-over) hands-over-first;
     }
 
--- ---- a reader that takes what it should, and says that there is one statement
-
-saysOne : Reading → Result ℕ
-saysOne (done os) = done 1
-saysOne (refused n p) = refused n p
-
-counts-one : Reader
-counts-one file offsets = let x = readJob file (length offsets) in (saysOne x, filled x offsets)
-
-makes-up : MakesUpCount counts-one (λ n offsets. 1)
-unfolding counts-one saysOne
-makes-up file offsets n = go (readJob file (length offsets))
-  where
-    go : (x : Reading) → saysOne x ≡ done n → n ≡ 1
-    go (done os) e = sym (same-done e)
-    go (refused k p) e = absurd (refused-not-done e)
-
--- ---- a reader that finds GETINFO everywhere
-
-getinfo : StatementReader
-getinfo file at = done (placedAt (GetInfo 0) at (at + 1))
-
-only-getinfo : OneStatement getinfo (GetInfo 0)
-unfolding getinfo
-only-getinfo file at y e = ap (λ (x : StatementAt). x .statement) (sym (same-done e))
-
 pub exhibited : Exhibited
-unfolding answers-only
 exhibited =
     record {
       a-reader-refuses = (λ file offsets. (refused unexpected 0, offsets), λ file offsets. (unexpected, 0, refl));
@@ -329,7 +215,7 @@ exhibited =
       a-take-up-refuses = (λ b. (refused nothingUnanswered 0, b), λ b. (nothingUnanswered, 0, refl));
       a-collect-refuses = (λ b p t room. (refused notTheOne 0, b), λ b p t room. (notTheOne, 0, refl));
       a-table-does-nothing = (λ max. [], idle, idles, idle-accepts);
-      a-table-only-answers = (answers-only, λ b c. refl, only-answers);
+      a-table-only-answers = (answers-only, leaves-all, only-answers);
       a-table-invented = (butCollects invents, one-invented);
       a-table-invents = (butCollects invents, λ p t out. (0, out), inventing, accepts (butCollects invents) (second-stands invents));
       a-reader-makes-up = (counts-one, λ n offsets. 1, makes-up);

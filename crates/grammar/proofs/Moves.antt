@@ -15,7 +15,7 @@ use Rattle.grammar.specs.Productions.{Placed}
 use Rattle.grammar.specs.Reading.{State, turn, opening, begin, move, moves}
 use Rattle.grammar.specs.Reading.State.{on, wrong}
 use Rattle.grammar.specs.Rows.{real}
-use Rattle.grammar.proofs.Points.{is-point}
+use Rattle.grammar.proofs.Apart.{is-point}
 
 -- the token may stand at the point
 abbrev pub Alive : Point → Placed → Type 0

@@ -22,7 +22,7 @@ use Rattle.counts.specs.Result.Result.{refused, done as taken}
 use Rattle.grammar.specs.Reading.State.{on, wrong}
 use Rattle.grammar.specs.Rows.{real, Full, MayStand, Stands, Three, FourToken, FourEnd, Five, Six, Whole, Says}
 use Rattle.grammar.specs.Rows.Says.{file as legal, three, four-token, four-end, five, six}
-use Rattle.grammar.proofs.Points.{is-class, is-point}
+use Rattle.grammar.proofs.Apart.{is-class, is-point}
 use Rattle.grammar.proofs.Moves.{Moved, moved, moves-append, moves-wrong, wrong≢on}
 use Rattle.grammar.proofs.Moves.Moved.{full, unreal, never}
 use Rattle.grammar.proofs.Files.{file-read, read-legal}

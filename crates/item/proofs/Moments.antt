@@ -17,9 +17,8 @@ use Rattle.decimal.proofs.Laws.{length-digits}
 use Rattle.decimal.proofs.ReadLaws.{read-done, read-back}
 use Rattle.field.specs.Bytes.{ascii}
 use Rattle.field.specs.Part.{part}
-use Rattle.grammar.specs.Grammar.{Class}
 use Rattle.grammar.specs.Grammar.Class.{number, date, unrealDate}
-use Rattle.item.specs.Tokens.{valueOf, dateClass, eightAt, numberClass, dateNumber, twoAt, timeNumber}
+use Rattle.item.specs.Tokens.{valueOf, dateClass, eightAt, numberClass, twoAt, timeNumber}
 use Rattle.item.proofs.Classes.{Dated, a-date, no-date, timed}
 
 -- "A date is eight bare digits yyyymmdd": a number of these bytes

@@ -17,7 +17,7 @@ use Rattle.grammar.specs.Productions.{Said, Placed}
 use Rattle.grammar.specs.Reading.{State, Last, Answer, opening, move, moves, atEnd, close, read}
 use Rattle.grammar.specs.Reading.State.{on, wrong}
 use Rattle.grammar.proofs.Moves.{moves-wrong}
-use Rattle.grammar.proofs.Points.{is-class, class-below}
+use Rattle.grammar.proofs.Apart.{is-class, class-below}
 use Rattle.item.specs.Tokens.{Next, at, nextItem, Tokens}
 use Rattle.item.specs.Tokens.Next.{item, ended, none}
 use Rattle.item.specs.Tokens.Tokens.{at-end, no-token, then}

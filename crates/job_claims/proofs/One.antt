@@ -11,7 +11,8 @@ use Rattle.grammar.specs.Productions.{Placed, classes}
 use Rattle.grammar.specs.Reading.{Last}
 use Rattle.grammar.specs.Reading.Last.{end, broken}
 use Rattle.grammar.specs.Rows.{real, Stands}
-use Rattle.grammar.proofs.Points.{is-point, stays, refuted, elsewhere, walked-any, any-walks}
+use Rattle.grammar.proofs.Apart.{is-point}
+use Rattle.grammar.proofs.Points.{stays, refuted, elsewhere, walked-any, any-walks}
 use Rattle.grammar.proofs.Ways.{finish, finishes}
 use Rattle.grammar.proofs.Viable.{placed, its-classes}
 use Rattle.item.specs.Tokens.{nextItem, Tokens, After}

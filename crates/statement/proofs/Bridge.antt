@@ -11,7 +11,8 @@ use Rattle.grammar.specs.Productions.{Placed}
 use Rattle.grammar.specs.Reading.{State, Last, moves, atEnd, close}
 use Rattle.grammar.specs.Reading.State.{on}
 use Rattle.grammar.specs.Reading.Last.{end, broken}
-use Rattle.grammar.proofs.Points.{Each, is-point}
+use Rattle.grammar.proofs.Apart.{is-point}
+use Rattle.grammar.proofs.Points.{Each}
 use Rattle.grammar.proofs.Moves.{moves-wrong}
 use Rattle.item.specs.Tokens.{nextItem, Tokens}
 use Rattle.item.specs.Tokens.Next.{item, ended, none}

@@ -9,7 +9,7 @@ use lib.Dec.{eqb}
 use Rattle.counts.specs.Refusals.{noToken, unexpected, notReal}
 use Rattle.grammar.specs.Grammar.{Class, classNo, isClass, shape}
 use Rattle.grammar.specs.Grammar.Class.{date, unrealDate, time, unrealTime}
-use Rattle.grammar.proofs.Points.{is-class, class-below}
+use Rattle.grammar.proofs.Apart.{is-class, class-below}
 use Rattle.item.specs.Tokens.{Next}
 use Rattle.item.specs.Items.{endNo, noneNo}
 use Rattle.item.specs.declared.Item.{Item}
