@@ -4,8 +4,8 @@
  * A host program puts SESSnnnn.REQ there. In this example its first line is the program's number, and each further line names a job
  * file, which is one command. The gateway places the request, takes the commands up one after the other, reads each job file, answers,
  * and writes the reply as SESSnnnn.RSP. The program reads its reply and removes it: so it collects, and only then do the request and the
- * number go. A request that cannot be served is left alone, with a line in the log: one that is refused, and one under another number than
- * the table gives, which is the lowest open one.
+ * number go. A request that cannot be served is left alone, with a line in the log: one that is refused, whose number is held meanwhile so
+ * that it stops no other, and one under another number than the table gives, which is the lowest open one.
  *
  * The table lives as long as this program does. A gateway that may be started anew while sessions stand must keep the table's bytes, and
  * what struct session holds, where they outlive it. */
@@ -23,6 +23,7 @@ struct session {
     rb_ticket ticket;
     uint32_t program, count;
     bool written;                   /* its reply stands in the share */
+    bool held;                      /* only the number is held: its request is refused */
     char jobs[RB_COMMANDS + 1][64]; /* of each command, and one place that shows that there are too many */
 };
 
@@ -57,6 +58,16 @@ static bool read_request(FILE *f, struct session *s) {
     return !ferror(f);
 }
 
+/* Holds the number of a refused request until the next round: the table gives the next number to the next request. */
+static void hold(uint32_t n) {
+    struct session s = {.program = 1, .count = 1, .held = true};
+    rb_session_number number;
+    memcpy(copy, table, sizeof table);
+    if (rb_place(copy, sizeof copy, s.program, s.count, &number, &s.ticket) != RB_DONE || number.n != n) return;
+    memcpy(table, copy, sizeof table);
+    sessions[n] = s;
+}
+
 /* Places the request under the number n, if the share has one. It is placed in a copy of the table first: the number that the table gives
  * is the session's, and a file under another number would get the reply of somebody else. A refused request stays where it is: its program
  * waits under that number, and if the file were gone another program would take the number, and the first one its reply. */
@@ -70,12 +81,14 @@ static void place_request(uint32_t n) {
     if (f) fclose(f);
     if (!was_read) {
         printf("request %u left alone: it cannot be read\n", n);
+        hold(n);
         return;
     }
     memcpy(copy, table, sizeof table);
     uint32_t no = rb_place(copy, sizeof copy, s.program, s.count, &number, &s.ticket);
     if (no != RB_DONE) {
         printf("request %u left alone: program %u, %u commands, refused with %u\n", n, s.program, s.count, rb_number(no));
+        hold(n);
         return;
     }
     if (number.n != n) {
@@ -126,6 +139,10 @@ static uint32_t run_job(const char *name) {
 
 static void serve(rb_session_number number, rb_ticket ticket, rb_command_number command) {
     const char *job = sessions[number.n].jobs[command.n - 1];
+    if (sessions[number.n].held) {
+        must(rb_answer(table, sizeof table, ticket, command, RB_ERROR, 0, 0, date, time_of_day), "answer");
+        return;
+    }
     printf("session %u, command %u: %s\n", number.n, command.n, job);
     uint32_t no = run_job(job);
     if (no != RB_DONE) printf("    refused: %u at %u\n", rb_number(no), rb_place_of(no));
@@ -141,7 +158,7 @@ static void write_reply(uint32_t n) {
     struct session *s = &sessions[n];
     uint8_t reply[RB_REPLY_BYTES];
     size_t count;
-    if (!s->ticket.n || s->written) return;
+    if (!s->ticket.n || s->written || s->held) return;
     memcpy(copy, table, sizeof table);
     if (rb_collect(copy, sizeof copy, s->program, s->ticket, reply, sizeof reply, &count) != RB_DONE) return;
     FILE *f = fopen(session_file(n, RB_RESPONSE), "wbx");
@@ -163,11 +180,15 @@ static bool is_gone(const char *path) {
 }
 
 /* Collects for a program that has removed its reply, and lets the request and the number go. Where the request is gone as well the number
- * stays taken, since a share that is out of reach looks like that. */
+ * stays taken, since a share that is out of reach looks like that. A number that was only held is open again. */
 static void let_go(uint32_t n) {
     struct session *s = &sessions[n];
     uint8_t reply[RB_REPLY_BYTES];
     size_t count;
+    if (s->held) {
+        must(rb_collect(table, sizeof table, s->program, s->ticket, reply, sizeof reply, &count), "collect");
+        memset(s, 0, sizeof *s);
+    }
     if (!s->written || !is_gone(session_file(n, RB_RESPONSE))) return;
     if (remove(session_file(n, RB_REQUEST))) {
         printf("session %u: its number stays taken, its request cannot be removed\n", n);
