@@ -1,17 +1,21 @@
 // Last month's fault, replayed on the session table, a line for each step: A's reply lies uncollected while B places a request. B is given another
-// number, A collects its own reply, and the old ticket is refused from then on.
+// number, and so another file on the share, A collects its own reply, and the old ticket is refused from then on.
 use counts::CommandNumber;
+use counts::SessionNumber;
 use counts::Ticket;
 use io::print_decimal;
 use io::write_all;
 use libc::STDOUT_FILENO;
 use record::Outcome;
+use session_name::Kind;
 use session_table::Answered;
 use session_table::Collected;
 use session_table::Made;
 use session_table::Placed;
 use session_table::TakenUp;
 use table_layout::Table;
+
+const MAX_SESSIONS: u32 = 2;
 
 const A: u32 = 1;
 
@@ -24,6 +28,13 @@ fn print_number(what: &[u8], n: u64) {
     print_decimal(STDOUT_FILENO, n);
 }
 
+// The session's file, as it is called on the share.
+fn print_file(number: SessionNumber, kind: Kind) {
+    let mut name = [0u8; 12];
+    session_name::write_name(number, kind, MAX_SESSIONS, &mut name);
+    write_all(STDOUT_FILENO, &name);
+}
+
 fn print_refusal(number: u32) {
     print_number(b"refused with ", number as u64);
     write_all(STDOUT_FILENO, b"\n");
@@ -31,7 +42,7 @@ fn print_refusal(number: u32) {
 
 fn make(table: &mut [u8]) {
     write_all(STDOUT_FILENO, b"a fresh table of two sessions: ");
-    match session_table::make(table, 2) {
+    match session_table::make(table, MAX_SESSIONS) {
         Made::Fresh => {
             write_all(STDOUT_FILENO, b"made\n");
         }
@@ -45,7 +56,7 @@ fn place(who: &[u8], table: &mut [u8], program: u32, count: u32) {
     write_all(STDOUT_FILENO, b": ");
     match session_table::place(table, program, count) {
         Placed::At(s, t) => {
-            print_number(b"number ", s.0 as u64);
+            print_file(s, Kind::Request);
             print_number(b", ticket ", t.0 as u64);
             write_all(STDOUT_FILENO, b"\n");
         }
@@ -57,7 +68,7 @@ fn take_up(table: &mut [u8]) {
     write_all(STDOUT_FILENO, b"the machine takes up: ");
     match session_table::take_up(table) {
         TakenUp::Given(s, t, c) => {
-            print_number(b"number ", s.0 as u64);
+            print_file(s, Kind::Request);
             print_number(b", ticket ", t.0 as u64);
             print_number(b", command ", c.0 as u64);
             write_all(STDOUT_FILENO, b"\n");
