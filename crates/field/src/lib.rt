@@ -46,20 +46,6 @@ pub fn put_bytes(out: &mut [u8], at: usize, src: &[u8]) -> usize
     at + j
 }
 
-pub fn get8(b: &[u8], at: usize) -> u8
-    requires { ⌜ at + 1 ≤ length (now b) ⌝ }
-    ensures { λ r. ⌜ r ≡ getW 1 (now (b .entry)) at ⌝ }
-{
-    b[at]
-}
-
-pub fn put8(b: &mut [u8], at: usize, v: u8)
-    requires { ⌜ at + 1 ≤ length (now b) ⌝ }
-    ensures { λ _. ⌜ now (b .exit) ≡ putW 1 (now (b .entry)) at v ⌝ }
-{
-    b[at] = v;
-}
-
 // One byte, as a wide number.
 fn wide_at(b: &[u8], at: usize) -> u32
     requires { ⌜ at + 1 ≤ length (now b) ⌝ }
