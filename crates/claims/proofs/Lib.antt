@@ -6,7 +6,6 @@ pub mod Demand1Table
 pub mod Demand1TableResults
 pub mod Demand1Statements
 pub mod Fits
-pub mod Computed
 pub mod Demand3
 pub mod Demands
 pub mod StandInReaders

@@ -1,4 +1,4 @@
--- A table that does nothing and says that it accepts, and one that answers as it should and does nothing. Assumes nothing.
+-- A table that does nothing and says that it accepts, and one that answers as it should and does nothing.
 use Prim.Native.Nat.{_≤_}
 use mathlib.Core.Path.{_≡_, refl}
 use mathlib.Core.Bool.{true}
@@ -10,11 +10,12 @@ use Rattle.counts.specs.Result.{refused, done}
 use Rattle.decimal.specs.Digits.{digits, widthFrom, plainWidth, plain}
 use Rattle.record.specs.Record.{momentBytes, recordBytes}
 use Rattle.record.specs.declared.Outcome.the-variants.{Error}
-use Rattle.sessions.specs.History.{made, placed, tookUp, answered, collected, gather, collection, accepted}
+use Rattle.sessions.specs.History.{Call, toMake, toPlace, toTakeUp, toAnswer, toCollect, made, placed, tookUp, answered, collected, gather, collection, accepted}
+use Rattle.sessions.specs.Runs.{reached, historyOf, neverAnew}
 use Rattle.sessions.specs.Table.{numbered, records}
 use Rattle.sessions.specs.declared.Answer.{Answer}
 use Rattle.session_table.specs.Calls.{placing}
-use Rattle.session_histories.specs.Runs.{Call, toMake, toPlace, toTakeUp, toAnswer, toCollect, Step, stepBytes, bytesAfter, historyOf, neverAnew}
+use Rattle.session_histories.specs.Runs.{Step, stepBytes}
 use Rattle.claims.specs.StandIns.{Request, Run, historyBy, SaysAccepted, DoesNothing, PlacesByRows}
 use Rattle.claims.proofs.Demand1Table.{place-exactly}
 use Rattle.claims.proofs.StandIns.{processed, output, kept}
@@ -62,7 +63,7 @@ idle-run : Answer → Run
 idle-run a = record { max = 1; low = omega arith; high = omega arith; calls = idle-calls a; kept = idle-kept a }
 
 idle-stands : (a : Answer) → Request (historyBy (λ max. []) idle (idle-run a)) 1 1 (a ∷ [])
-unfolding historyOf bytesAfter idle idle-calls idle-run accepted numbered gather collection
+unfolding historyOf reached idle idle-calls idle-run accepted numbered gather collection
 idle-stands a =
     record {
       number = 0;

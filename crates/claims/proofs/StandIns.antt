@@ -1,4 +1,4 @@
--- No stand-in keeps the demand that document 01 says it breaks. Assumes nothing.
+-- No stand-in keeps the demand that document 01 says it breaks.
 use Prim.Native.Nat.{ℕ, _+_, _≤_, _<_}
 use mathlib.Core.Path.{_≡_, refl, sym, ap, _∙_}
 use mathlib.Core.Bool.{true}
@@ -14,21 +14,23 @@ use Rattle.scan.specs.Run.{run}
 use Rattle.record.specs.Record.{isReal, momentBytes, recordBytes}
 use Rattle.record.specs.declared.Outcome.the-variants.{Processed}
 use Rattle.sessions.proofs.Owing.{length-numbered}
-use Rattle.sessions.proofs.Past.{head-same, gather-append}
+use Rattle.sessions.proofs.Did.{stepTable}
+use Rattle.sessions.proofs.Laws.{head-same}
+use Rattle.sessions.proofs.Past.{gather-append}
+use Rattle.sessions.proofs.Runs.{SameRun}
 use Rattle.sessions.specs.Find.{find, put}
-use Rattle.sessions.specs.History.{Event, placed, tookUp, collected, written, gather, placing, placings}
+use Rattle.sessions.specs.History.{Call, toPlace, toTakeUp, toAnswer, toCollect, Event, placed, tookUp, collected, written, gather, placing, placings}
+use Rattle.sessions.specs.Runs.{reached, historyOf, neverAnew}
 use Rattle.sessions.specs.Table.{State, fresh as freshState, isOpen, isWaiting, isReady, names, numbered, records, placeIn, place, takeNext, takeHand, takeUp, answerHand, answer, collectFrom, collect}
 use Rattle.sessions.specs.declared.Answer.{Answer}
 use Rattle.session_table.specs.Calls.{freshBytes}
 use Rattle.session_table.specs.Calls as calls
-use Rattle.session_histories.specs.Runs.{Call, toPlace, toTakeUp, toAnswer, toCollect, Step, stepBytes, bytesAfter, historyOf, neverAnew}
-use Rattle.session_histories.proofs.Does.{collecting-is}
-use Rattle.session_histories.proofs.Same.{sound-after}
+use Rattle.session_histories.specs.Runs.{Step, stepBytes, bytesAfter}
+use Rattle.session_histories.proofs.Does.{collecting-is, Holds, does, same-bytes, fresh-holds}
 use Rattle.table_sound.specs.Bytes.{abs}
 use Rattle.claims.specs.Demands.{Serves, Demand3}
 use Rattle.claims.specs.StandIns.{Request, Run, bytesBy, historyBy, SaysAccepted, DoesNothing, PlacesByRows, Invented, Invents, HandsOver, HoldsBack, PlaceCall, TakeUpCall, CollectCall, PlaceRefuses, TakeUpRefuses, CollectRefuses, IsRefused, Refuted}
 use Rattle.claims.specs.TableRows.{PlaceRow, TakeUpRow, CollectRow}
-use Rattle.claims.proofs.Computed.{step as stepWithout, table, holds, gives}
 use Rattle.claims.proofs.Demand1Table.{place-exactly, take-up-exactly, collect-exactly}
 use Rattle.claims.proofs.StandInReaders.{same-done, reader-must-take, reader-must-look, statement-must-be-read, statement-must-look, statements-not-made-up}
 
@@ -50,6 +52,13 @@ output = replicate 100 0
 abbrev of-two : List Call → List ℕ
 of-two = bytesAfter (freshBytes 2) stepBytes
 
+-- what calls on lent bytes give is computed on the table without bytes
+pub same : (cs : List Call) → SameRun Holds stepBytes (stepTable calls.making) (freshBytes 2) (freshState 2) cs
+same = same-bytes (fresh-holds 2 (omega arith) (omega arith))
+
+gives : (cs : List Call) (c : Call) → stepBytes (of-two cs) c .0 ≡ stepTable calls.making (reached (freshState 2) (stepTable calls.making) cs) c .0
+gives cs c = does _ _ (same cs .stands) c .answers
+
 pub kept : neverAnew answering-one ≡ true
 unfolding neverAnew
 kept = refl
@@ -58,10 +67,6 @@ kept-one : neverAnew placing-one ≡ true
 unfolding neverAnew
 kept-one = refl
 
-kept-none : neverAnew [] ≡ true
-unfolding neverAnew
-kept-none = refl
-
 placed-so : {p n : ℕ} {r v : Result (ℕ × ℕ)} → placed p n r ≡ placed p n v → r ≡ v
 placed-so e = cc
 
@@ -69,18 +74,18 @@ took-so : {r v : Result (ℕ × ℕ × ℕ)} → tookUp r ≡ tookUp v → r ≡
 took-so e = cc
 
 places-first : calls.placing (freshBytes 2) 1 1 ≡ done (0, 1)
-unfolding bytesAfter stepBytes stepWithout table freshState isOpen find put placeIn place
-places-first = placed-so (gives 2 (omega arith) (omega arith) [] kept-none (toPlace 1 1) refl)
+unfolding stepBytes stepTable reached freshState isOpen find put placeIn place
+places-first = placed-so (gives [] (toPlace 1 1))
 
 gives-first : calls.takingUp (of-two placing-one) ≡ done (0, 1, 1)
-unfolding stepBytes stepWithout table freshState isOpen isWaiting find put placeIn place takeNext takeHand takeUp
-gives-first = took-so (gives 2 (omega arith) (omega arith) placing-one kept-one toTakeUp refl)
+unfolding stepBytes stepTable reached freshState isOpen isWaiting find put placeIn place takeNext takeHand takeUp
+gives-first = took-so (gives placing-one toTakeUp)
 
 pub hands-over-first : calls.collecting (of-two answering-one) 1 1 (length output) ≡ done (records (numbered 1 (processed ∷ [])))
-unfolding stepWithout table freshState isOpen isWaiting isReady find put names placeIn place takeNext takeHand takeUp answerHand answer collectFrom collect numbered records isReal februaryLength monthLength realDate realTime digits widthFrom plainWidth plain momentBytes recordBytes
+unfolding stepTable reached freshState isOpen isWaiting isReady find put names placeIn place takeNext takeHand takeUp answerHand answer collectFrom collect numbered records isReal februaryLength monthLength realDate realTime digits widthFrom plainWidth plain momentBytes recordBytes
 hands-over-first =
-    collecting-is (of-two answering-one) (sound-after 2 (omega arith) (omega arith) answering-one kept) 1 1 output
-    ∙ ap (λ (σ : State). collect σ 1 1 (length output) .0) (holds 2 (omega arith) (omega arith) answering-one kept)
+    let w = same answering-one .stands in
+    collecting-is (of-two answering-one) (w .sound) 1 1 output ∙ ap (λ (σ : State). collect σ 1 1 (length output) .0) (w .table)
 
 -- ---- calls that always refuse
 
@@ -132,7 +137,7 @@ module _ (fresh : ℕ → List ℕ) (step : Step) (meets : Demand3 fresh step) w
       w .not-so (y .its-records ∙ ap (λ (l : List (ℕ × Answer)). written (w .output) (records l)) (sym (y .one-answer-each)))
 
   stays : DoesNothing step → (start : List ℕ) (cs : List Call) → bytesAfter start step cs ≡ start
-  unfolding bytesAfter
+  unfolding reached
   stays never start [] = refl
   stays never start (c ∷ cs) = never (bytesAfter start step cs) c ∙ stays never start cs
 
@@ -162,7 +167,7 @@ module _ (fresh : ℕ → List ℕ) (step : Step) (meets : Demand3 fresh step) w
         w .they-differ (same-done (handed (sym hands-these ∙ ap (λ (b : List ℕ). step b (toCollect p t both) .0) e ∙ hands-those)))
 
   commands-not-made-up : (n k : ℕ) → (n ≡ k → ⊥) → HandsOver fresh step n k → ⊥
-  unfolding historyOf bytesAfter gather placing neverAnew
+  unfolding historyOf reached gather placing neverAnew
   commands-not-made-up n k other w =
       let h = historyBy fresh step (w .run) in
       let call = toCollect (w .program) (w .ticket) (w .output) in
@@ -180,7 +185,7 @@ module _ (fresh : ℕ → List ℕ) (step : Step) (meets : Demand3 fresh step) w
       refused-not-done (handed (sym (w .kept) ∙ whole-is-there (w .run) (w .program) (w .ticket) answers (w .output) (w .whole) (w .enough)))
 
 table-must-do : (step : Step) → Demand3 freshBytes step → DoesNothing step → PlacesByRows step → ⊥
-unfolding historyOf bytesAfter gather
+unfolding historyOf reached gather
 table-must-do step meets never rows =
     let r = rows (freshBytes 2) 1 1 in
     let e : step (freshBytes 2) (toPlace 1 1) .0 ≡ placed 1 1 (done (0, 1)) =

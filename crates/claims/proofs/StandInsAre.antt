@@ -1,4 +1,4 @@
--- Each stand-in is one that there is: a function that does what document 01's sentence says, without the demand. Assumes nothing.
+-- Each stand-in is one that there is: a function that does what document 01's sentence says, without the demand.
 use Prim.Native.Nat.{ℕ}
 use mathlib.Core.Path.{_≡_, refl, sym, ap, _∙_}
 use mathlib.Core.Bool.{Bool, true, cond}
@@ -13,15 +13,16 @@ use Rattle.counts.specs.Result.{Result, refused, done, counted}
 use Rattle.decimal.specs.Digits.{digits, widthFrom, plainWidth, plain}
 use Rattle.statement.specs.declared.Statement.the-variants.{GetInfo}
 use Rattle.record.specs.Record.{isReal, momentBytes, recordBytes}
+use Rattle.sessions.proofs.Did.{stepTable}
 use Rattle.sessions.specs.Find.{find, put}
-use Rattle.sessions.specs.History.{Event, made, placed, tookUp, answered, collected, written, gather, collection, accepted}
+use Rattle.sessions.specs.History.{Call, toMake, toPlace, toTakeUp, toAnswer, toCollect, Event, made, placed, tookUp, answered, collected, written, gather, collection, accepted}
+use Rattle.sessions.specs.Runs.{reached, historyOf, neverAnew}
 use Rattle.sessions.specs.Table.{fresh as freshState, isOpen, isWaiting, names, numbered, records, placeIn, place, takeNext, takeHand, takeUp, answerHand, answer}
 use Rattle.sessions.specs.declared.Answer.{Answer}
 use Rattle.session_table.specs.Calls.{freshBytes, placing, placedBytes, collectedOut}
-use Rattle.session_histories.specs.Runs.{Call, toMake, toPlace, toTakeUp, toAnswer, toCollect, Step, stepBytes, bytesAfter, historyOf, neverAnew}
+use Rattle.session_histories.specs.Runs.{Step, stepBytes, bytesAfter}
 use Rattle.claims.specs.StandIns.{Request, Run, historyBy, SaysAccepted, Invented, Invents, HandsOver, HoldsBack, Exhibited}
-use Rattle.claims.proofs.Computed.{step as stepWithout, table, history, computed}
-use Rattle.claims.proofs.StandIns.{processed, output, answering-one, kept, hands-over-first}
+use Rattle.claims.proofs.StandIns.{processed, output, answering-one, same, hands-over-first}
 use Rattle.claims.proofs.StandInReaders.{counts-one, makes-up, getinfo, only-getinfo}
 use Rattle.claims.proofs.StandInIdle.{of-two, failed, differ, short, idle, idles, idle-accepts, answers-only, leaves-all, only-answers}
 
@@ -52,16 +53,16 @@ second-events : Answer → List Event
 second-events a = answered 2 1 a (done tt) ∷ tookUp (done (1, 2, 1)) ∷ placed 2 1 (done (1, 2)) ∷ first-events
 
 serves-first : historyOf (freshBytes 2) stepBytes answering-one ≡ first-events
-unfolding first-events history stepWithout table freshState isOpen isWaiting find put names placeIn place takeNext takeHand takeUp answerHand answer isReal februaryLength monthLength realDate realTime
-serves-first = computed 2 (omega arith) (omega arith) answering-one kept
+unfolding first-events historyOf reached stepTable freshState isOpen isWaiting find put names placeIn place takeNext takeHand takeUp answerHand answer isReal februaryLength monthLength realDate realTime
+serves-first = same answering-one .history
 
 serves-processed : historyOf (freshBytes 2) stepBytes (second processed) ≡ second-events processed
-unfolding first-events second-events second history stepWithout table freshState isOpen isWaiting find put names placeIn place takeNext takeHand takeUp answerHand answer isReal februaryLength monthLength realDate realTime
-serves-processed = computed 2 (omega arith) (omega arith) (second processed) (second-kept processed)
+unfolding first-events second-events second historyOf reached stepTable freshState isOpen isWaiting find put names placeIn place takeNext takeHand takeUp answerHand answer isReal februaryLength monthLength realDate realTime
+serves-processed = same (second processed) .history
 
 serves-failed : historyOf (freshBytes 2) stepBytes (second failed) ≡ second-events failed
-unfolding first-events second-events second history stepWithout table freshState isOpen isWaiting find put names placeIn place takeNext takeHand takeUp answerHand answer isReal februaryLength monthLength realDate realTime
-serves-failed = computed 2 (omega arith) (omega arith) (second failed) (second-kept failed)
+unfolding first-events second-events second historyOf reached stepTable freshState isOpen isWaiting find put names placeIn place takeNext takeHand takeUp answerHand answer isReal februaryLength monthLength realDate realTime
+serves-failed = same (second failed) .history
 
 is-second : (a : Answer) {h : List Event} → h ≡ second-events a → Request h 2 2 (a ∷ [])
 unfolding second-events accepted numbered gather collection
@@ -82,7 +83,7 @@ is-second a e =
 -- in these calls nothing is collected
 second-stands : (f : List ℕ → ℕ → ℕ → List ℕ → Event × List ℕ) (a : Answer) → historyOf (freshBytes 2) stepBytes (second a) ≡ second-events a
     → Request (historyBy freshBytes (butCollects f) (second-run a)) 2 2 (a ∷ [])
-unfolding historyOf bytesAfter butCollects second
+unfolding historyOf reached butCollects second
 second-stands f a e = is-second a e
 
 accepts : (step : Step) → ((a : Answer) → historyOf (freshBytes 2) stepBytes (second a) ≡ second-events a → Request (historyBy freshBytes step (second-run a)) 2 2 (a ∷ []))
@@ -137,7 +138,7 @@ unfolding second-events first-events accepted records digits widthFrom plainWidt
 nothing-written e = let n : _≡_ {A = ℕ} 0 67 = ap (λ (l : List ℕ). getD l 0 0) e in omega arith
 
 one-invented : Invented freshBytes (butCollects invents)
-unfolding historyOf bytesAfter butCollects invents second neverAnew
+unfolding historyOf reached butCollects invents second neverAnew
 one-invented =
     record {
       run = of-two (toCollect 2 2 output ∷ second processed) refl;
@@ -179,7 +180,7 @@ unfolding shortened neverAnew
 shortened-kept = refl
 
 shortened-events : historyBy freshBytes shortens (of-two shortened shortened-kept) ≡ answered 1 1 processed (done tt) ∷ tookUp (done (0, 1, 1)) ∷ placed 1 2 (done (0, 1)) ∷ []
-unfolding historyOf bytesAfter shortens shortened stepBytes first-events asking
+unfolding historyOf reached shortens shortened stepBytes first-events asking
 shortened-events = ap (asking 2) serves-first
 
 -- what the collection leaves in the output
@@ -187,7 +188,7 @@ abbrev left-over : List ℕ
 left-over = collectedOut (bytesAfter (freshBytes 2) stepBytes answering-one) 1 1 output
 
 hands-over : HandsOver freshBytes shortens 2 1
-unfolding bytesAfter shortens shortened stepBytes accepted
+unfolding reached shortens shortened stepBytes accepted
 hands-over =
     record {
       run = of-two shortened shortened-kept;

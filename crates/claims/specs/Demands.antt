@@ -39,7 +39,8 @@ use Rattle.job.specs.Job.{readJob, filled, jobSays}
 use Rattle.job.specs.Statement.{placed as placedAt, Tiled, readStatement, statementSays, textAt}
 use Rattle.job_claims.specs.Verdict.{Verdict, Taken, Crowded}
 use Rattle.job_claims.specs.Rows.{One}
-use Rattle.sessions.specs.History.{Event, placed, tookUp, answered, collected, collectedAs, placings, accepted, collections}
+use Rattle.sessions.specs.History.{Call, toPlace, toTakeUp, toAnswer, toCollect, Event, placed, tookUp, answered, collected, collectedAs, placings, accepted, collections}
+use Rattle.sessions.specs.Runs.{historyOf, makesAnew, neverAnew, refusedWith, Refuses}
 use Rattle.sessions.specs.Records.{recordOf}
 use Rattle.sessions.specs.Sound.{isReal}
 use Rattle.sessions.specs.Owed.{ifRoom, owed, Yours}
@@ -51,7 +52,7 @@ use Rattle.session_table.specs.Calls.{Beyond, making, madeBytes, placing, place
 use Rattle.session_table.specs.Collect.{Collects}
 use Rattle.session_table.specs.Paper.{paperMade, paperPlaced, paperTakenUp, paperAnswered}
 use Rattle.session_table.specs.declared.Collected.{Collected}
-use Rattle.session_histories.specs.Runs.{Call, toPlace, toTakeUp, toAnswer, toCollect, Step, stepBytes, makesAnew, bytesAfter, historyOf, neverAnew, refusedWith, Refuses}
+use Rattle.session_histories.specs.Runs.{Step, stepBytes, bytesAfter}
 use Rattle.claims.specs.Exactly.{Exactly, Obeys, OneResult}
 use Rattle.claims.specs.Fits.{Fits}
 use Rattle.claims.specs.NameRows.{ReadNameRow, WriteNameRow}

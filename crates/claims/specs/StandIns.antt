@@ -1,5 +1,5 @@
 -- The stand-ins that document 01 has us try ("How much a contract says"). Each is every function that does what the sentence says, with what it
--- answers left free: none keeps the demand, and there is one that does so. Assumes nothing.
+-- answers left free: none keeps the demand, and there is one that does so.
 use Prim.Native.Nat.{ℕ, _≤_, _<_}
 use mathlib.Core.Path.{_≡_}
 use mathlib.Core.Bool.{true}
@@ -7,11 +7,12 @@ use mathlib.Core.List.{List, [], _∷_, _++_}
 use lib.ListN.{length}
 use Rattle.counts.specs.Limits.{sessions}
 use Rattle.counts.specs.Result.{Result, refused, done}
-use Rattle.sessions.specs.History.{Event, placed, answered, collected, written, accepted, collections}
+use Rattle.sessions.specs.History.{Call, toPlace, toCollect, Event, placed, answered, collected, written, accepted, collections}
+use Rattle.sessions.specs.Runs.{historyOf, neverAnew}
 use Rattle.sessions.specs.Table.{numbered, records}
 use Rattle.sessions.specs.declared.Answer.{Answer}
 use Rattle.session_table.specs.Calls.{freshBytes}
-use Rattle.session_histories.specs.Runs.{Call, toPlace, toCollect, Step, stepBytes, bytesAfter, historyOf, neverAnew}
+use Rattle.session_histories.specs.Runs.{Step, stepBytes, bytesAfter}
 use Rattle.statement.specs.declared.Statement.{Statement}
 use Rattle.job.specs.declared.StatementAt.{StatementAt}
 use Rattle.table_sound.specs.Bytes.{abs}

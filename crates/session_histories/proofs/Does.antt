@@ -1,12 +1,12 @@
--- Each call on sound bytes answers and leaves what the table without bytes does, and keeps them sound. Assumes nothing.
+-- Each call on sound bytes answers and leaves what the table without bytes does, and keeps them sound.
 use Prim.Native.Nat.{ℕ, _+_, _≤_}
-use mathlib.Core.Path.{_≡_, refl, _∙_, ap, sym}
+use mathlib.Core.Path.{_≡_, refl, _∙_, ap, sym, subst}
 use mathlib.Core.Bool.{Bool, true, false, cond}
 use mathlib.Core.Logic.{⊎-elim}
 use mathlib.Core.List.{List}
 use native.Mathlib.Nat.{eq-zero-or-pos, zero-add}
 use native.Mathlib.Omega.{arith}
-use borrow.Author.Tests.{lt-ltb, le-leb}
+use borrow.Author.Tests.{eq-eqb, lt-ltb, le-leb}
 use lib.Dec.{eqb}
 use lib.ListN.{length}
 use Rattle.counts.specs.Limits.{commands, programs, sessions, ticketMost}
@@ -14,45 +14,38 @@ use Rattle.counts.specs.Refusals.{outOfRange}
 use Rattle.counts.specs.Result.{Result, refused, done, counted}
 use Rattle.field.proofs.Put.{put-eq}
 use Rattle.field.specs.Part.{put}
-use Rattle.sessions.proofs.Did.{Did, nothing, no-make, other-make, did-place, did-take-up, did-answer, did-collect}
+use Rattle.sessions.proofs.Did.{make, stepTable, did-place, did-take-up, did-answer, did-collect, did}
 use Rattle.sessions.proofs.Laws.{halves, in-range, done-same}
+use Rattle.sessions.proofs.Owing.{answer-cond}
 use Rattle.sessions.proofs.Parts.{parts-sound}
+use Rattle.sessions.proofs.Runs.{Alike, SameRun, same-run}
 use Rattle.sessions.proofs.SoundKept.{sound-kept}
-use Rattle.sessions.proofs.Stays.{isRefusal, refuses, refused-stays}
+use Rattle.sessions.proofs.Told.{Told, told}
 use Rattle.sessions.specs.Find.{orNone}
-use Rattle.sessions.specs.History.{itself, other, Event, collected, collectedAs}
-use Rattle.sessions.specs.Table.{State, within, place, placeIn, turn, takeUp, takeHand, takeNext, names, answer, answerHand, reply, collect, collectFrom, afterAnswer}
+use Rattle.sessions.specs.History.{itself, other, Call, toMake, toPlace, toTakeUp, toAnswer, toCollect, made, placed, tookUp, answered, collected, collectedAs}
+use Rattle.sessions.specs.Table.{State, fresh, within, place, placeIn, turn, takeUp, takeHand, takeNext, names, answer, answerHand, reply, collect, collectFrom, afterAnswer}
 use Rattle.sessions.specs.declared.Answer.{Answer}
 use Rattle.session_table.proofs.Answering.{Answerable, answerable, answer-hand, answer-leaves as answering-leaves}
 use Rattle.session_table.proofs.Collecting.{Collectable, collectable, collect-done, collect-leaves as collecting-leaves}
 use Rattle.session_table.proofs.Hands.{hand-empty, hand-full}
 use Rattle.session_table.proofs.Placing.{openIn, Placeable, placeable, place-leaves as placing-leaves}
 use Rattle.session_table.proofs.Turns.{nextIn, next-found, next-waits, next-leaves, again-leaves}
-use Rattle.session_table.specs.Calls.{only, after, making, madeBytes, placing, placedAt, placedBytes, takingUp, takenAt, takenBytes, answering, answeredAs, answeredBytes, collecting, collectedAt, collectedBytes, collectedOut, readyIn, inHand}
+use Rattle.session_table.specs.Calls.{only, after, making, freshBytes, madeBytes, placing, placedAt, placedBytes, takingUp, takenAt, takenBytes, answering, answeredAs, answeredBytes, collecting, collectedAt, collectedBytes, collectedOut, readyIn, inHand}
 use Rattle.table_layout.proofs.Numbers.{length-putNumber}
-use Rattle.table_layout.specs.Layout.{maxAt, lastAt, markAt, handAt, number, putNumber, putHead, putEntry}
+use Rattle.table_layout.specs.Layout.{tableBytes, maxAt, lastAt, markAt, handAt, number, putNumber, putHead, putEntry}
 use Rattle.table_search.proofs.Sounds.{sound-size, sound-table, waits, hand-waits}
 use Rattle.table_slot.specs.Slots.{putSlot}
 use Rattle.table_sound.specs.Bytes.{slotOf, abs, soundBytes}
+use Rattle.session_histories.proofs.Fresh.{fresh-length, fresh-bytes, fresh-is-sound}
 use Rattle.session_histories.proofs.Leaves.{place-leaves, take-leaves, collect-leaves}
 use Rattle.session_histories.proofs.Stored.{answer-leaves}
-use Rattle.session_histories.specs.Runs.{Call, toMake, toPlace, toTakeUp, toAnswer, toCollect, stepBytes, makesAnew}
+use Rattle.session_histories.specs.Runs.{stepBytes}
 
--- a result is done or refused
-data Ends {A : Type 0} (r : Result A) : Type 0 where
-  ends-done : only r ≡ done tt → Ends r
-  ends-refused : (k i : ℕ) → r ≡ refused k i → Ends r
-
-ends : {A : Type 0} (r : Result A) → Ends r
-ends (refused k i) = ends-refused k i refl
-ends (done x) = ends-done refl
-
--- where the bytes are kept, so is what they hold
-kept : {A : Type 0} (r : Result A) (k i : ℕ) (b : List ℕ) (f : A → List ℕ) → r ≡ refused k i → after r b f ≡ b
-kept r k i b f q = rw q
-
-refusal-is : {A : Type 0} {r x : Result A} {k i : ℕ} → r ≡ x → r ≡ refused k i → isRefusal x ≡ true
-refusal-is p q = rw (sym p ∙ q)
+-- what a call leaves, by its two ways: where it is refused the bytes are kept, and so is the table without bytes
+leaves-by : {A : Type 0} (b : List ℕ) (r : Result A) (f : A → List ℕ) (x : Result A × State) → r ≡ x .0
+    → ((k i : ℕ) → x .0 ≡ refused k i → x .1 ≡ abs b) → (only r ≡ done tt → abs (after r b f) ≡ x .1) → abs (after r b f) ≡ x .1
+leaves-by b (refused k i) f x e stays does = sym (stays k i (sym e))
+leaves-by b (done y) f x e stays does = does refl
 
 module _ (b : List ℕ) (e : soundBytes b ≡ true) where
   pub placing-is : (p n : ℕ) → placing b p n ≡ place (abs b) p n .0
@@ -75,11 +68,10 @@ module _ (b : List ℕ) (e : soundBytes b ≡ true) where
 
     pub place-does : abs (placedBytes b p n) ≡ place (abs b) p n .1
     unfolding placedBytes
-    place-does = go (ends (placing b p n))
-      where
-        go : Ends (placing b p n) → abs (placedBytes b p n) ≡ place (abs b) p n .1
-        go (ends-refused k i q) = ap abs (kept (placing b p n) k i b (placedAt b p n) q) ∙ sym (refused-stays (did-place (abs b) p n) (refusal-is (placing-is p n) q))
-        go (ends-done q) = placed-done (placeable b p n q)
+    place-does =
+        leaves-by b (placing b p n) (placedAt b p n) (place (abs b) p n) (placing-is p n)
+        (λ k i q. subst (λ r. Told (abs b) (placed p n r) (place (abs b) p n .1)) q (told (did-place (abs b) p n)))
+        (λ q. placed-done (placeable b p n q))
 
   -- take up
   pub taking-is : takingUp b ≡ takeUp (abs b) .0
@@ -102,11 +94,10 @@ module _ (b : List ℕ) (e : soundBytes b ≡ true) where
 
   pub take-does : abs (takenBytes b) ≡ takeUp (abs b) .1
   unfolding takenBytes
-  take-does = go (ends (takingUp b))
-    where
-      go : Ends (takingUp b) → abs (takenBytes b) ≡ takeUp (abs b) .1
-      go (ends-refused k i q) = ap abs (kept (takingUp b) k i b (takenAt b) q) ∙ sym (refused-stays (did-take-up (abs b)) (refusal-is taking-is q))
-      go (ends-done q) = ⊎-elim (λ z. taken-next q z) (λ z. taken-again q (λ y. omega arith)) (eq-zero-or-pos (number b handAt))
+  take-does =
+      leaves-by b (takingUp b) (takenAt b) (takeUp (abs b)) taking-is
+      (λ k i q. subst (λ r. Told (abs b) (tookUp r) (takeUp (abs b) .1)) q (told (did-take-up (abs b))))
+      (λ q. ⊎-elim (λ z. taken-next q z) (λ z. taken-again q (λ y. omega arith)) (eq-zero-or-pos (number b handAt)))
 
   -- answer
   module _ (t c : ℕ) (a : Answer) where
@@ -131,11 +122,10 @@ module _ (b : List ℕ) (e : soundBytes b ≡ true) where
 
     pub answer-does : abs (answeredBytes b t c a) ≡ answer (abs b) t c a .1
     unfolding answeredBytes
-    answer-does = go (ends (answering b t c a))
-      where
-        go : Ends (answering b t c a) → abs (answeredBytes b t c a) ≡ answer (abs b) t c a .1
-        go (ends-refused k i q) = ap abs (kept (answering b t c a) k i b (λ r. answeredAs b a) q) ∙ sym (refused-stays (did-answer (abs b) t c a) (refusal-is answering-is q))
-        go (ends-done q) = answered-done (answerable b t c a q)
+    answer-does =
+        leaves-by b (answering b t c a) (λ r. answeredAs b a) (answer (abs b) t c a) answering-is
+        (λ k i q. subst (λ r. Told (abs b) (answered t c a r) (answer (abs b) t c a .1)) q (told (did-answer (abs b) t c a)))
+        (λ q. answered-done (answerable b t c a q))
 
   -- collect
   module _ (p t : ℕ) (out : List ℕ) where
@@ -171,43 +161,32 @@ module _ (b : List ℕ) (e : soundBytes b ≡ true) where
         ∙ collect-leaves b e s (omega (arith, w .below, sound-table b e .max-high))
         ∙ rw (w .range, w .found, le-leb (length (reply (slotOf b s))) room (w .room-enough))
 
-    refusal-event : (x : Result (List ℕ)) → isRefusal x ≡ true → refuses (collectedAs p t out x) ≡ true
-    refusal-event (refused k i) q = q
-    refusal-event (done y) q = q
-
     pub collect-does : abs (collectedBytes b p t room) ≡ collect (abs b) p t room .1
     unfolding collectedBytes
-    collect-does = go (ends (collecting b p t room))
-      where
-        go : Ends (collecting b p t room) → abs (collectedBytes b p t room) ≡ collect (abs b) p t room .1
-        go (ends-refused k i q) =
-            ap abs (kept (collecting b p t room) k i b (λ r. collectedAt b (readyIn b p t)) q)
-            ∙ sym (refused-stays (did-collect (abs b) p t out) (refusal-event (collect (abs b) p t room .0) (refusal-is collecting-is q)))
-        go (ends-done q) = collected-done (collectable b p t room q)
+    collect-does =
+        leaves-by b (collecting b p t room) (λ r. collectedAt b (readyIn b p t)) (collect (abs b) p t room) collecting-is
+        (λ k i q. subst (λ r. Told (abs b) (collectedAs p t out r) (collect (abs b) p t room .1)) q (told (did-collect (abs b) p t out)))
+        (λ q. collected-done (collectable b p t room q))
 
-  -- a making that does not make the table anew
-  module _ (max : ℕ) (q : within 1 max sessions ≡ false) where
-    pub making-refused : making b max ≡ refused outOfRange 0
+  -- make
+  module _ (max : ℕ) where
+    making-which : making b max ≡ cond (within 1 max sessions) (done tt) (refused outOfRange 0)
     unfolding making
-    making-refused = rw q
+    making-which = rw (eq-eqb (length b) tableBytes (sound-size b e))
 
-    pub making-keeps : madeBytes b max ≡ b
-    unfolding madeBytes
-    making-keeps = rw making-refused
+    making-is : making b max ≡ make (abs b) max .0
+    unfolding make
+    making-is = making-which ∙ sym (answer-cond (within 1 max sessions) _ _ _ _ (λ q. refl))
 
-did-same : {σ τ τ′ : State} {e e′ : Event} → e ≡ e′ → τ ≡ τ′ → Did σ e′ τ′ → Did σ e τ
-did-same p q d = rw (p, q) d
-
-module _ (b : List ℕ) (e : soundBytes b ≡ true) where
-  -- one call on sound bytes is one call of the table without bytes, on what they hold
-  pub does : (c : Call) → makesAnew c ≡ false → Did (abs b) (stepBytes b c .0) (abs (stepBytes b c .1))
-  unfolding stepBytes
-  does (toMake itself max) q = rw (making-refused b e max q, making-keeps b e max q) (nothing (no-make itself max outOfRange 0))
-  does (toMake (other m) max) q = nothing (other-make m max (making m max))
-  does (toPlace p n) q = rw (placing-is b e p n, place-does b e p n) (did-place (abs b) p n)
-  does toTakeUp q = rw (taking-is b e, take-does b e) (did-take-up (abs b))
-  does (toAnswer t c a) q = rw (answering-is b e t c a, answer-does b e t c a) (did-answer (abs b) t c a)
-  does (toCollect p t out) q = did-same (collected-is b e p t out) (collect-does b e p t out) (did-collect (abs b) p t out)
+    make-does : abs (madeBytes b max) ≡ make (abs b) max .1
+    unfolding madeBytes make
+    make-does = rw making-which (go (within 1 max sessions) refl)
+      where
+        go : (x : Bool) → within 1 max sessions ≡ x
+            → abs (after (cond {A = Result (Unit {0})} x (done tt) (refused outOfRange 0)) b (λ r. freshBytes max))
+            ≡ cond {A = Result (Unit {0}) × State} x (done tt, fresh max) (refused outOfRange 0, abs b) .1
+        go true q = let r = in-range 1 max sessions q in fresh-bytes max (r .0) (r .1)
+        go false q = refl
 
 -- no call changes the length
 after-length : {A : Type 0} (r : Result A) (b : List ℕ) (f : A → List ℕ) → ((x : A) → length (f x) ≡ length b) → length (after r b f) ≡ length b
@@ -218,19 +197,56 @@ cond-length : (t : Bool) (d b : List ℕ) → length d ≡ length b → length (
 cond-length true d b h = h
 cond-length false d b h = refl
 
-step-length : (b : List ℕ) (e : soundBytes b ≡ true) (c : Call) → makesAnew c ≡ false → length (stepBytes b c .1) ≡ length b
-unfolding stepBytes placedBytes takenBytes answeredBytes collectedBytes putHead putSlot putEntry
-step-length b e (toMake itself max) q = ap length (making-keeps b e max q)
-step-length b e (toMake (other m) max) q = refl
-step-length b e (toPlace p n) q = after-length (placing b p n) b (placedAt b p n) (λ r. simp length-putNumber)
-step-length b e toTakeUp q = after-length (takingUp b) b (takenAt b)
-    (λ r. cond-length (eqb (number b handAt) 0) (putNumber (putNumber b markAt (r .0)) handAt (r .0 + 1)) b (simp length-putNumber))
-step-length b e (toAnswer t c a) q = after-length (answering b t c a) b (λ r. answeredAs b a) (λ r. simp length-putNumber)
-step-length b e (toCollect p t out) q =
-    after-length (collecting b p t (length out)) b (λ r. collectedAt b (readyIn b p t)) (λ r. simp length-putNumber)
-
 module _ (b : List ℕ) (e : soundBytes b ≡ true) where
-  -- and keeps them sound
-  pub keeps : (c : Call) → makesAnew c ≡ false → soundBytes (stepBytes b c .1) ≡ true
+  step-length : (c : Call) → length (stepBytes b c .1) ≡ length b
+  unfolding stepBytes madeBytes placedBytes takenBytes answeredBytes collectedBytes putHead putSlot putEntry
+  step-length (toMake itself max) = after-length (making b max) b (λ r. freshBytes max) (λ r. fresh-length max ∙ sym (sound-size b e))
+  step-length (toMake (other m) max) = refl
+  step-length (toPlace p n) = after-length (placing b p n) b (placedAt b p n) (λ r. simp length-putNumber)
+  step-length toTakeUp = after-length (takingUp b) b (takenAt b)
+      (λ r. cond-length (eqb (number b handAt) 0) (putNumber (putNumber b markAt (r .0)) handAt (r .0 + 1)) b (simp length-putNumber))
+  step-length (toAnswer t c a) = after-length (answering b t c a) b (λ r. answeredAs b a) (λ r. simp length-putNumber)
+  step-length (toCollect p t out) =
+      after-length (collecting b p t (length out)) b (λ r. collectedAt b (readyIn b p t)) (λ r. simp length-putNumber)
+
+  answers : (c : Call) → stepBytes b c .0 ≡ stepTable making (abs b) c .0
+  unfolding stepBytes stepTable
+  answers (toMake itself max) = ap (made itself max) (making-is b e max)
+  answers (toMake (other m) max) = refl
+  answers (toPlace p n) = ap (placed p n) (placing-is b e p n)
+  answers toTakeUp = ap tookUp (taking-is b e)
+  answers (toAnswer t c a) = ap (answered t c a) (answering-is b e t c a)
+  answers (toCollect p t out) = collected-is b e p t out
+
+  leaves : (c : Call) → abs (stepBytes b c .1) ≡ stepTable making (abs b) c .1
+  unfolding stepBytes stepTable
+  leaves (toMake itself max) = make-does b e max
+  leaves (toMake (other m) max) = refl
+  leaves (toPlace p n) = place-does b e p n
+  leaves toTakeUp = take-does b e
+  leaves (toAnswer t c a) = answer-does b e t c a
+  leaves (toCollect p t out) = collect-does b e p t out
+
+  pub keeps : (c : Call) → soundBytes (stepBytes b c .1) ≡ true
   unfolding soundBytes
-  keeps c q = rw (step-length b e c q ∙ sound-size b e, parts-sound (abs (stepBytes b c .1)) (sound-kept (does b e c q) (sound-table b e)))
+  keeps c =
+      rw (step-length c ∙ sound-size b e, leaves c, parts-sound (stepTable making (abs b) c .1) (sound-kept (did (abs b) making c) (sound-table b e)))
+
+-- sound bytes that hold this table
+pub record Holds (b : List ℕ) (σ : State) : Type 0 where
+  pub sound : soundBytes b ≡ true
+  pub table : abs b ≡ σ
+
+pub does : (b : List ℕ) (σ : State) → Holds b σ → (c : Call) → Alike Holds stepBytes (stepTable making) (stepBytes b c) (stepTable making σ c)
+does b σ w c =
+    record {
+      answers = answers b (w .sound) c ∙ ap (λ τ. stepTable making τ c .0) (w .table);
+      leaves = record { sound = keeps b (w .sound) c; table = leaves b (w .sound) c ∙ ap (λ τ. stepTable making τ c .1) (w .table) };
+    }
+
+-- and so does every run: the bytes stay sound, hold what the table without bytes is then, and the answers are the same
+pub same-bytes : {b : List ℕ} {σ : State} → Holds b σ → (cs : List Call) → SameRun Holds stepBytes (stepTable making) b σ cs
+same-bytes = same-run Holds stepBytes (stepTable making) does
+
+pub fresh-holds : (max : ℕ) → 1 ≤ max → max ≤ sessions → Holds (freshBytes max) (fresh max)
+fresh-holds max low high = record { sound = fresh-is-sound max low high; table = fresh-bytes max low high }

@@ -39,11 +39,11 @@ zero-number : (n j : ℕ) → number (zeros n) j ≡ 0
 unfolding number
 zero-number n j = zero-wide 4 n (4 * j)
 
-module _ (max : ℕ) (low : 1 ≤ max) (high : max ≤ sessions) where
-  pub fresh-length : length (freshBytes max) ≡ tableBytes
-  unfolding freshBytes putTable
-  fresh-length = simp (length-putNumber, length-replicate)
+pub fresh-length : (max : ℕ) → length (freshBytes max) ≡ tableBytes
+unfolding freshBytes putTable
+fresh-length max = simp (length-putNumber, length-replicate)
 
+module _ (max : ℕ) (low : 1 ≤ max) (high : max ≤ sessions) where
   pub fresh-bytes : abs (freshBytes max) ≡ fresh max
   unfolding freshBytes putTable fresh handOf
   fresh-bytes =
@@ -54,4 +54,4 @@ module _ (max : ℕ) (low : 1 ≤ max) (high : max ≤ sessions) where
 
   pub fresh-is-sound : soundBytes (freshBytes max) ≡ true
   unfolding soundBytes
-  fresh-is-sound = rw (fresh-length, fresh-bytes, parts-sound (fresh max) (fresh-sound max low high))
+  fresh-is-sound = rw (fresh-length max, fresh-bytes, parts-sound (fresh max) (fresh-sound max low high))

@@ -3,5 +3,3 @@ pub mod Leaves
 pub mod Stored
 pub mod Fresh
 pub mod Does
-pub mod Same
-pub mod Progress

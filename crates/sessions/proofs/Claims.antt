@@ -1,27 +1,31 @@
--- DEMAND 3 without bytes, for every MaxSessions from 1 to 32 and every run from a fresh table on, refused calls included.
+-- DEMAND 3 without bytes, for every start that agrees with a history of nothing and all calls that do not make the table anew, refused
+-- ones included.
 -- A history has the newest event first, so `later ++ (e ∷ earlier)` is a history in which e happened, with what came after and before.
 use Prim.Native.Nat.{ℕ, suc, _+_, _≤_}
-use mathlib.Core.Path.{_≡_, refl, _∙_, ap, sym}
+use mathlib.Core.Path.{_≡_, refl, _∙_, ap, sym, subst}
 use mathlib.Core.Bool.{true}
 use mathlib.Core.List.{List, [], _∷_, _++_, append-nil}
 use mathlib.Core.Logic.{⊎-elim}
 use native.Mathlib.Omega.{arith}
 use borrow.Author.Tests.{eq-eqb}
 use lib.ListN.{length, length-append}
-use Rattle.counts.specs.Limits.{commands, sessions}
-use Rattle.counts.specs.Result.{done}
-use Rattle.sessions.specs.History.{Event, placed, answered, collected, gather, placing, placings, accepted, collection, collections}
+use Rattle.counts.specs.Limits.{commands}
+use Rattle.counts.specs.Result.{Result, done}
+use Rattle.sessions.specs.History.{Call, toPlace, toCollect, Event, placed, answered, collected, collectedAs, gather, placing, placings, accepted, collection, collections}
 use Rattle.sessions.specs.Owed.{ifRoom, owed, Yours}
-use Rattle.sessions.specs.Table.{State, numbered, records, place, collect}
+use Rattle.sessions.specs.Runs.{reached, historyOf, neverAnew, Refuses}
+use Rattle.sessions.specs.Table.{State, numbered, records}
 use Rattle.sessions.specs.Sound.{isReal}
 use Rattle.sessions.specs.declared.Answer.{Answer}
 use Rattle.sessions.proofs.Agrees.{Agrees, agrees}
-use Rattle.sessions.proofs.Answers.{Refuses, there, not-again-number, given-new, given-once, collected-gone, closed-or-waits}
-use Rattle.sessions.proofs.Did.{Run}
-use Rattle.sessions.proofs.Laws.{nil≢mid, tail-same}
+use Rattle.sessions.proofs.Answers.{there, not-again-number, given-new, given-once, collected-gone, closed-or-waits}
+use Rattle.sessions.proofs.Did.{stepTable}
+use Rattle.sessions.proofs.Laws.{nil≢mid, head-same, tail-same}
 use Rattle.sessions.proofs.Owing.{collect-owed, collect-yours, in-order}
 use Rattle.sessions.proofs.SoundKept.{is-session}
-use Rattle.sessions.proofs.Past.{head-same, gather-append, accepted-append, accepted-at, moment, Collection, told}
+use Rattle.sessions.proofs.Past.{gather-append, accepted-append, accepted-at}
+use Rattle.sessions.proofs.Runs.{moment}
+use Rattle.sessions.proofs.Told.{Told, Collection, told-by}
 
 length-zero : {A : Type 0} (l : List A) → length l ≡ 0 → l ≡ []
 length-zero [] e = refl
@@ -37,40 +41,68 @@ numbered-place k (b ∷ l) (x ∷ xs) ys c a e = let z = numbered-place (suc k) 
 yours : {σ : State} {h : List Event} {p t n : ℕ} {out exit : List ℕ} → Agrees σ h → Collection σ p t out n exit → Yours p t out n exit h
 yours {σ} {h} A c = rw (c .its-length, c .its-output) (collect-yours σ h A (c .collects-it))
 
-module _ (max : ℕ) (low : 1 ≤ max) (high : max ≤ sessions) (σ : State) (h : List Event) (run : Run max σ h) where
+module _ (elsewhere : List ℕ → ℕ → Result (Unit {0})) (start : State) (begins : Agrees start []) (cs : List Call) (kept : neverAnew cs ≡ true) where
+  abbrev σ : State
+  σ = reached start (stepTable elsewhere) cs
+
+  abbrev h : List Event
+  h = historyOf start (stepTable elsewhere) cs
+
+  now : Agrees σ h
+  now = agrees elsewhere start begins cs kept
+
   -- A collection answers what the history owes, and nothing else of the table matters.
-  pub collect-answers-what-is-owed : (p t room : ℕ) → collect σ p t room .0 ≡ owed h p t room
-  collect-answers-what-is-owed = collect-owed σ h (agrees max low high run)
+  pub collect-answers-what-is-owed : (p t : ℕ) (out : List ℕ)
+      → stepTable elsewhere σ (toCollect p t out) .0 ≡ collectedAs p t out (owed h p t (length out))
+  unfolding stepTable
+  collect-answers-what-is-owed p t out = ap (collectedAs p t out) (collect-owed σ h now p t (length out))
 
   -- The answers of a ticket are accepted in the order 1, 2, ..
   pub answers-in-order : (t : ℕ) → (l : List Answer) × (accepted t h ≡ numbered 1 l)
-  answers-in-order = in-order σ h (agrees max low high run)
+  answers-in-order = in-order σ h now
 
   module _ (later earlier : List Event) where
+    -- the table before an event agrees with what came before it, and the event tells of it
+    record Then (e : Event) : Type 0 where
+      before : State
+      after : State
+      agreed : Agrees before earlier
+      tells : Told before e after
+
+    then : (e : Event) → h ≡ later ++ (e ∷ earlier) → Then e
+    then e q =
+        let m = moment start (stepTable elsewhere) cs kept later earlier e q in
+        let τ = reached start (stepTable elsewhere) (m .calls) in
+        record {
+          before = τ;
+          after = stepTable elsewhere τ (m .call) .1;
+          agreed = subst (λ (l : List Event). Agrees τ l) (m .before) (agrees elsewhere start begins (m .calls) (m .kept));
+          tells = told-by elsewhere τ (m .call) (m .now);
+        }
+
     -- "Each reply collected under a ticket holds one record per command of the request that got that ticket, numbered from 1 in
     -- order, carrying exactly the outcome, date and time accepted for that ticket and command."
     pub reply-is-yours : (p t : ℕ) (out : List ℕ) (n : ℕ) (exit : List ℕ) → h ≡ later ++ (collected p t out (done n) exit ∷ earlier)
         → Yours p t out n exit earlier
-    reply-is-yours p t out n exit e =
-        let m = moment max run later earlier (collected p t out (done n) exit) e in
-        yours (agrees max low high (m .run)) (told (m .now))
+    reply-is-yours p t out n exit e = let m = then (collected p t out (done n) exit) e in yours (m .agreed) (m .tells)
 
     -- An answer that was accepted is real, and to a command that there may be.
     pub accepted-in-range : (t c : ℕ) (a : Answer) (r : Unit {0}) → h ≡ later ++ (answered t c a (done r) ∷ earlier)
         → (1 ≤ c) × (c ≤ commands) × (isReal a ≡ true)
     accepted-in-range t c a r e =
-        let m = moment max run later earlier (answered t c a (done r)) e in
-        let w = told (m .now) in
-        let ok = agrees max low high (m .run) .sound in
+        let m = then (answered t c a (done r)) e in
+        let w = m .tells in
+        let ok = m .agreed .sound in
         let l = ok .in-hand (w .number) (w .answers-it .in-hand) in
         let x = is-session (m .before) ok (λ x. x .count) refl (w .number) (omega arith) in
         (omega (arith, w .answers-it .command), omega (arith, w .answers-it .command, x .count-high), w .answers-it .real)
 
     -- "A collected ticket is never honoured again."
-    pub never-again : (p t : ℕ) (out : List ℕ) (n : ℕ) (exit : List ℕ) → h ≡ later ++ (collected p t out (done n) exit ∷ earlier) → Refuses σ t
+    pub never-again : (p t : ℕ) (out : List ℕ) (n : ℕ) (exit : List ℕ) → h ≡ later ++ (collected p t out (done n) exit ∷ earlier)
+        → Refuses (stepTable elsewhere) σ t
     unfolding gather collection
     never-again p t out n exit e =
-        collected-gone σ h (agrees max low high run) t (collections t later) (collections t earlier) p
+        collected-gone elsewhere σ h now t (collections t later) (collections t earlier) p
         (ap (collections t) e ∙ gather-append (collection t) later (collected p t out (done n) exit ∷ earlier) ∙ rw (eq-eqb t t refl))
 
     module _ (p n s t : ℕ) (e : h ≡ later ++ (placed p n (done (s, t)) ∷ earlier)) where
@@ -83,10 +115,10 @@ module _ (max : ℕ) (low : 1 ≤ max) (high : max ≤ sessions) (σ : State) (h
       since : Since
       unfolding gather placing collection accepted
       since =
-          let m = moment max run later earlier (placed p n (done (s, t))) e in
-          let w = given-new (m .before) earlier (agrees max low high (m .run)) t (told (m .now)) in
+          let m = then (placed p n (done (s, t))) e in
+          let w = given-new elsewhere (m .before) earlier (m .agreed) t (m .tells .1) in
           record {
-            one-placing = given-once σ h (agrees max low high run) t (s, p, n) (placings t later)
+            one-placing = given-once elsewhere σ h now t (s, p, n) (placings t later)
                 (ap (placings t) e ∙ gather-append (placing t) later _ ∙ rw (eq-eqb t t refl, w .no-placing));
             its-answers = ap (accepted t) e ∙ accepted-append t later _ ∙ rw (w .no-answer);
             replies = ap (collections t) e ∙ gather-append (collection t) later _ ∙ rw (w .no-reply, append-nil);
@@ -95,7 +127,7 @@ module _ (max : ℕ) (low : 1 ≤ max) (high : max ≤ sessions) (σ : State) (h
       few : length (accepted t later) ≤ n
       few =
           let k = ap length (since .its-answers) in
-          ⊎-elim (λ z. omega arith) (λ z. omega arith) (closed-or-waits σ h (agrees max low high run) t s p n (since .one-placing))
+          ⊎-elim (λ z. omega arith) (λ z. omega arith) (closed-or-waits elsewhere σ h now t s p n (since .one-placing))
 
       -- Once the last command is answered each is, and nothing was accepted under the ticket since.
       module _ (newer older : List Event) (a : Answer) (r : Unit {0}) (q : later ≡ newer ++ (answered t n a (done r) ∷ older)) where
@@ -110,10 +142,11 @@ module _ (max : ℕ) (low : 1 ≤ max) (high : max ≤ sessions) (σ : State) (h
             omega (arith, few)
 
         -- "Once the last command is answered, and until the collection, the owner who shows the ticket and enough room gets that reply."
-        pub reply-is-there : (room : ℕ) → collections t later ≡ [] → collect σ p t room .0 ≡ ifRoom (records (accepted t later)) room
-        reply-is-there room f =
+        pub reply-is-there : (out : List ℕ) → collections t later ≡ []
+            → stepTable elsewhere σ (toCollect p t out) .0 ≡ collectedAs p t out (ifRoom (records (accepted t later)) (length out))
+        reply-is-there out f =
             rw (← (since .its-answers))
-            (there σ h (agrees max low high run) t s p n room (since .one-placing) (ap length (since .its-answers) ∙ each-is-answered) (since .replies ∙ f))
+            (there elsewhere σ h now t s p n out (since .one-placing) (ap length (since .its-answers) ∙ each-is-answered) (since .replies ∙ f))
 
       -- The reply stays what it is: once every command is answered, nothing more is accepted under the ticket.
       pub reply-stays : (newer older : List Event) → later ≡ newer ++ older → length (accepted t older) ≡ n → accepted t later ≡ accepted t older
@@ -123,5 +156,5 @@ module _ (max : ℕ) (low : 1 ≤ max) (high : max ≤ sessions) (σ : State) (h
           k ∙ ap (λ r. accepted t older ++ r) z ∙ append-nil _
 
       -- "A number is taken from its placing until its collection": no placing gives it again.
-      pub number-is-held : (q m u : ℕ) → collections t later ≡ [] → place σ q m .0 ≡ done (s, u) → ⊥
-      number-is-held q m u f = not-again-number σ h (agrees max low high run) t s p n q m u (since .one-placing) (since .replies ∙ f)
+      pub number-is-held : (q m u : ℕ) → collections t later ≡ [] → stepTable elsewhere σ (toPlace q m) .0 ≡ placed q m (done (s, u)) → ⊥
+      number-is-held q m u f = not-again-number elsewhere σ h now t s p n q m u (since .one-placing) (since .replies ∙ f)

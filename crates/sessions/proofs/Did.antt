@@ -1,15 +1,16 @@
--- What one call did, in five cases, and every run of such calls from a fresh table on. Every invariant goes by these; nothing above this file looks into a call.
+-- One call of the table without bytes, and what it did, in six cases. Every invariant goes by these; nothing above this file looks into a call.
 use Prim.Native.Nat.{ℕ, _+_, _≤_, _<_}
 use mathlib.Core.Path.{_≡_, refl}
-use mathlib.Core.Bool.{true, _&&_}
-use mathlib.Core.List.{List, [], _∷_}
+use mathlib.Core.Bool.{Bool, true, false, cond, _&&_}
+use mathlib.Core.List.{List}
 use borrow.Author.Tests.{eqb-true, leb-true, ltb-true, ltb-false}
 use lib.Dec.{leb, ltb}
 use lib.ListN.{length}
-use Rattle.counts.specs.Limits.{commands, programs, ticketMost}
-use Rattle.counts.specs.Refusals.{notReal, notARecord, tooLittleRoom, allTaken, notTheOne, outOfRange, noTicketLeft, nothingUnanswered}
+use Rattle.counts.specs.Limits.{commands, programs, sessions, ticketMost}
+use Rattle.counts.specs.Refusals.{notReal, notARecord, tooLittleRoom, allTaken, notTheOne, outOfRange, noTicketLeft, unsound, nothingUnanswered}
 use Rattle.sessions.specs.Find.{Found, none, at}
-use Rattle.sessions.specs.History.{Lent, other, Event, made, placed, tookUp, answered, collected, written, collectedAs}
+use Rattle.sessions.specs.History.{itself, other, Call, toMake, toPlace, toTakeUp, toAnswer, toCollect, Event, made, placed, tookUp, answered, collected, written, collectedAs}
+use Rattle.sessions.specs.Runs.{makesAnew, wasMade, refusedWith}
 use Rattle.sessions.specs.declared.Answer.{Answer}
 use Rattle.record.specs.Record.{isOutcome}
 use Rattle.sessions.specs.Records.{isDated}
@@ -18,13 +19,25 @@ use Rattle.counts.specs.Result.{Result, refused, done}
 use Rattle.sessions.specs.Table.{State, fresh, within, isOpen, afterPlace, placeIn, place, isWaiting, lowest, turn, given, afterTakeUp, takeNext, takeHand, takeUp, names, afterAnswer, answerHand, answer, reply, afterCollect, collectFrom, collect, isReady}
 use Rattle.sessions.proofs.Laws.{Search, miss, hit, search-find, halves, if-cond, in-range, are-named, is-ready}
 
+unfoldable pub make : State → ℕ → Result (Unit {0}) × State
+make σ max = cond (within 1 max sessions) (done tt, fresh max) (refused outOfRange 0, σ)
+
+-- What a making of other memory answers is not this table's to say: `elsewhere` does.
+unfoldable pub stepTable : (elsewhere : List ℕ → ℕ → Result (Unit {0})) → State → Call → Event × State
+stepTable elsewhere σ (toMake itself max) = (made itself max (make σ max .0), make σ max .1)
+stepTable elsewhere σ (toMake (other m) max) = (made (other m) max (elsewhere m max), σ)
+stepTable elsewhere σ (toPlace p n) = (placed p n (place σ p n .0), place σ p n .1)
+stepTable elsewhere σ toTakeUp = (tookUp (takeUp σ .0), takeUp σ .1)
+stepTable elsewhere σ (toAnswer t c a) = (answered t c a (answer σ t c a .0), answer σ t c a .1)
+stepTable elsewhere σ (toCollect p t out) = (collectedAs p t out (collect σ p t (length out) .0), collect σ p t (length out) .1)
+
 -- refused, given again what is in hand, or done to other memory
 pub data Idle (σ : State) : Event → Type 0 where
-  no-make : (m : Lent) (max k i : ℕ) → Idle σ (made m max (refused k i))
+  no-make : (max k i : ℕ) → Idle σ (made itself max (refused k i))
   other-make : (m : List ℕ) (max : ℕ) (r : Result (Unit {0})) → Idle σ (made (other m) max r)
   no-place : (p n k i : ℕ) → Idle σ (placed p n (refused k i))
   no-take-up : (k i : ℕ) → Idle σ (tookUp (refused k i))
-  again : (s : ℕ) → Idle σ (tookUp (given σ s))
+  again : (s : ℕ) → σ .hand ≡ at s → Idle σ (tookUp (given σ s))
   no-answer : (t c : ℕ) (a : Answer) (k i : ℕ) → Idle σ (answered t c a (refused k i))
   no-collect : (p t : ℕ) (out : List ℕ) (k i : ℕ) → Idle σ (collected p t out (refused k i) out)
 
@@ -56,86 +69,82 @@ pub record Collects (σ : State) (s p t : ℕ) (out : List ℕ) : Type 0 where
   pub fits : length (reply (σ .slot s)) ≤ length out
 
 pub data Did (σ : State) : Event → State → Type 0 where
-  nothing : {e : Event} → Idle σ e → Did σ e σ
+  nothing : {e : Event} → Idle σ e → refusedWith unsound e ≡ false → Did σ e σ
+  makes : {max : ℕ} → (1 ≤ max) × (max ≤ sessions) → Did σ (made itself max (done tt)) (fresh max)
   places : {s p n : ℕ} → Places σ s p n → Did σ (placed p n (done (s, σ .last + 1))) (afterPlace σ s p n)
   takes : {i : ℕ} → Takes σ i → Did σ (tookUp (given σ (turn σ i))) (afterTakeUp σ (turn σ i))
   answers : {s t c : ℕ} {a : Answer} → Answers σ s t c a → Did σ (answered t c a (done tt)) (afterAnswer σ s a)
   collects : {s p t : ℕ} {out : List ℕ} → Collects σ s p t out
       → Did σ (collected p t out (done (length (reply (σ .slot s)))) (written out (reply (σ .slot s)))) (afterCollect σ s)
 
--- from a fresh table on: where it stands, and what was called
-pub data Run (max : ℕ) : State → List Event → Type 0 where
-  start : Run max (fresh max) []
-  next : {σ σ′ : State} {h : List Event} {e : Event} → Run max σ h → Did σ e σ′ → Run max σ′ (e ∷ h)
-
 module _ (σ : State) where
   module _ (p n : ℕ) where
-    abbrev Placed : Result (ℕ × ℕ) × State → Type 0
-    Placed r = Did σ (placed p n (r .0)) (r .1)
+    abbrev DidPlace : Result (ℕ × ℕ) × State → Type 0
+    DidPlace r = Did σ (placed p n (r .0)) (r .1)
 
-    place-in : (within 1 p programs && within 1 n commands) ≡ true → (f : Found) → Search (σ .max) (λ s. isOpen (σ .slot s)) f → Placed (placeIn σ p n f)
+    place-in : (within 1 p programs && within 1 n commands) ≡ true → (f : Found) → Search (σ .max) (λ s. isOpen (σ .slot s)) f → DidPlace (placeIn σ p n f)
     unfolding placeIn isOpen
-    place-in r none (miss m) = nothing (no-place p n allTaken 0)
+    place-in r none (miss m) = nothing (no-place p n allTaken 0) refl
     place-in r (at s) (hit l e m) =
-        if-cond Placed (ltb (σ .last) ticketMost)
+        if-cond DidPlace (ltb (σ .last) ticketMost)
         (λ q.
         let b = halves (within 1 p programs) (within 1 n commands) r in
         places (record { free = eqb-true _ _ e; below = l; program-range = in-range 1 p programs (b .0); count-range = in-range 1 n commands (b .1); room = ltb-true _ _ q }))
-        (λ q. nothing (no-place p n noTicketLeft 0))
+        (λ q. nothing (no-place p n noTicketLeft 0) refl)
 
-    pub did-place : Placed (place σ p n)
+    pub did-place : DidPlace (place σ p n)
     unfolding place
-    did-place = if-cond Placed (within 1 p programs && within 1 n commands) (λ r. place-in r _ (search-find _ _)) (λ q. nothing (no-place p n outOfRange 0))
+    did-place = if-cond DidPlace (within 1 p programs && within 1 n commands) (λ r. place-in r _ (search-find _ _)) (λ q. nothing (no-place p n outOfRange 0) refl)
 
-  abbrev TookUp : Result (ℕ × ℕ × ℕ) × State → Type 0
-  TookUp r = Did σ (tookUp (r .0)) (r .1)
+  abbrev DidTakeUp : Result (ℕ × ℕ × ℕ) × State → Type 0
+  DidTakeUp r = Did σ (tookUp (r .0)) (r .1)
 
-  take-next : σ .hand ≡ none → (f : Found) → Search (σ .max) (λ i. isWaiting (σ .slot (turn σ i))) f → TookUp (takeNext σ f)
+  take-next : σ .hand ≡ none → (f : Found) → Search (σ .max) (λ i. isWaiting (σ .slot (turn σ i))) f → DidTakeUp (takeNext σ f)
   unfolding takeNext isWaiting
-  take-next e none (miss m) = nothing (no-take-up nothingUnanswered 0)
+  take-next e none (miss m) = nothing (no-take-up nothingUnanswered 0) refl
   take-next e (at i) (hit l w m) =
       takes (record { empty-hand = e; in-turn = l; waits = ltb-true _ _ w; first = λ j k. ltb-false _ _ (m j k) })
 
-  take-hand : (f : Found) → σ .hand ≡ f → TookUp (takeHand σ f)
+  take-hand : (f : Found) → σ .hand ≡ f → DidTakeUp (takeHand σ f)
   unfolding takeHand
   take-hand none e = take-next e _ (search-find _ _)
-  take-hand (at s) e = nothing (again s)
+  take-hand (at s) e = nothing (again s e) refl
 
   module _ (t c : ℕ) (a : Answer) where
-    abbrev Answered : Result (Unit {0}) × State → Type 0
-    Answered r = Did σ (answered t c a (r .0)) (r .1)
+    abbrev DidAnswer : Result (Unit {0}) × State → Type 0
+    DidAnswer r = Did σ (answered t c a (r .0)) (r .1)
 
-    answer-hand : (f : Found) → σ .hand ≡ f → Answered (answerHand σ t c a f)
+    answer-hand : (f : Found) → σ .hand ≡ f → DidAnswer (answerHand σ t c a f)
     unfolding answerHand isReal
-    answer-hand none e = nothing (no-answer t c a notTheOne 0)
+    answer-hand none e = nothing (no-answer t c a notTheOne 0) refl
     answer-hand (at s) e =
-        if-cond Answered (names (σ .slot s) t c)
-        (λ m. if-cond Answered (isDated a)
-        (λ d. if-cond Answered (isOutcome (a .outcome))
+        if-cond DidAnswer (names (σ .slot s) t c)
+        (λ m. if-cond DidAnswer (isDated a)
+        (λ d. if-cond DidAnswer (isOutcome (a .outcome))
         (λ o.
         let k = are-named (σ .slot s) t c m in
         answers (record { in-hand = e; ticket = k .0; command = k .1; real = rw (d, o) }))
-        (λ q. nothing (no-answer t c a notARecord 0)))
-        (λ q. nothing (no-answer t c a notReal 0)))
-        (λ q. nothing (no-answer t c a notTheOne 0))
+        (λ q. nothing (no-answer t c a notARecord 0) refl))
+        (λ q. nothing (no-answer t c a notReal 0) refl))
+        (λ q. nothing (no-answer t c a notTheOne 0) refl)
 
   module _ (p t : ℕ) (out : List ℕ) where
-    abbrev Collected : Result (List ℕ) × State → Type 0
-    Collected r = Did σ (collectedAs p t out (r .0)) (r .1)
+    abbrev DidCollect : Result (List ℕ) × State → Type 0
+    DidCollect r = Did σ (collectedAs p t out (r .0)) (r .1)
 
-    collect-from : within 1 p programs ≡ true → (f : Found) → Search (σ .max) (λ s. isReady p t (σ .slot s)) f → Collected (collectFrom σ (length out) f)
+    collect-from : within 1 p programs ≡ true → (f : Found) → Search (σ .max) (λ s. isReady p t (σ .slot s)) f → DidCollect (collectFrom σ (length out) f)
     unfolding collectFrom
-    collect-from r none (miss m) = nothing (no-collect p t out notTheOne 0)
+    collect-from r none (miss m) = nothing (no-collect p t out notTheOne 0) refl
     collect-from r (at s) (hit l e m) =
-        if-cond Collected (leb (length (reply (σ .slot s))) (length out))
+        if-cond DidCollect (leb (length (reply (σ .slot s))) (length out))
         (λ q.
         let k = is-ready p t (σ .slot s) e in
         collects (record { program-low = in-range 1 p programs r .0; program = k .0; ticket = k .1; closed = k .2; fits = leb-true _ _ q }))
-        (λ q. nothing (no-collect p t out tooLittleRoom 0))
+        (λ q. nothing (no-collect p t out tooLittleRoom 0) refl)
 
-    pub did-collect : Collected (collect σ p t (length out))
+    pub did-collect : DidCollect (collect σ p t (length out))
     unfolding collect
-    did-collect = if-cond Collected (within 1 p programs) (λ r. collect-from r _ (search-find _ _)) (λ q. nothing (no-collect p t out outOfRange 0))
+    did-collect = if-cond DidCollect (within 1 p programs) (λ r. collect-from r _ (search-find _ _)) (λ q. nothing (no-collect p t out outOfRange 0) refl)
 
   pub did-take-up : Did σ (tookUp (takeUp σ .0)) (takeUp σ .1)
   unfolding takeUp
@@ -144,3 +153,38 @@ module _ (σ : State) where
   pub did-answer : (t c : ℕ) (a : Answer) → Did σ (answered t c a (answer σ t c a .0)) (answer σ t c a .1)
   unfolding answer
   did-answer t c a = answer-hand t c a (σ .hand) refl
+
+  did-make : (max : ℕ) → Did σ (made itself max (make σ max .0)) (make σ max .1)
+  unfolding make
+  did-make max =
+      if-cond (λ (x : Result (Unit {0}) × State). Did σ (made itself max (x .0)) (x .1)) (within 1 max sessions)
+      (λ q. makes (in-range 1 max sessions q))
+      (λ q. nothing (no-make max outOfRange 0) refl)
+
+  module _ (elsewhere : List ℕ → ℕ → Result (Unit {0})) where
+    pub did : (c : Call) → Did σ (stepTable elsewhere σ c .0) (stepTable elsewhere σ c .1)
+    unfolding stepTable
+    did (toMake itself max) = did-make max
+    did (toMake (other m) max) = nothing (other-make m max (elsewhere m max)) refl
+    did (toPlace p n) = did-place p n
+    did toTakeUp = did-take-up
+    did (toAnswer t c a) = did-answer t c a
+    did (toCollect p t out) = did-collect p t out
+
+    -- the calls that make the table anew are those that say so
+    pub anew-exactly : (c : Call) → makesAnew c ≡ wasMade (stepTable elsewhere σ c .0)
+    unfolding stepTable make
+    anew-exactly (toMake itself max) = go (within 1 max sessions)
+      where
+        go : (x : Bool) → x ≡ wasMade (made itself max (cond {A = Result (Unit {0}) × State} x (done tt, fresh max) (refused outOfRange 0, σ) .0))
+        go true = refl
+        go false = refl
+    anew-exactly (toMake (other m) max) = refl
+    anew-exactly (toPlace p n) = refl
+    anew-exactly toTakeUp = refl
+    anew-exactly (toAnswer t c a) = refl
+    anew-exactly (toCollect p t out) = go (collect σ p t (length out) .0)
+      where
+        go : (r : Result (List ℕ)) → false ≡ wasMade (collectedAs p t out r)
+        go (refused k i) = refl
+        go (done x) = refl

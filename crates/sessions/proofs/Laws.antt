@@ -108,8 +108,8 @@ refused≢done e = let z : _≡_ {A = ℕ} 0 1 = cc in omega arith
 pub done-same : {A : Type 0} {x y : A} → done x ≡ done y → x ≡ y
 done-same e = cc
 
-pub only-same : {A : Type 0} {x y : A} → x ∷ [] ≡ y ∷ [] → x ≡ y
-only-same e = cc
+pub head-same : {A : Type 0} {x y : A} {l m : List A} → x ∷ l ≡ y ∷ m → x ≡ y
+head-same e = cc
 
 pub nil≢cons : {A : Type 0} {x : A} {l : List A} → [] ≡ x ∷ l → ⊥
 nil≢cons e = let z : _≡_ {A = ℕ} 0 1 = cc in omega arith

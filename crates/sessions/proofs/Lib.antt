@@ -1,12 +1,14 @@
 pub mod Laws
+pub mod Runs
 pub mod Loops
 pub mod Parts
 pub mod Did
-pub mod Stays
+pub mod Told
 pub mod SoundKept
 pub mod Standing
 pub mod Agrees
 pub mod Owing
 pub mod Answers
 pub mod Past
+pub mod Progress
 pub mod Claims

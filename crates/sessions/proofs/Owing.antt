@@ -27,7 +27,7 @@ length-numbered k [] = refl
 length-numbered k (a ∷ l) = ap suc (length-numbered (suc k) l)
 
 -- an answer by cases, beside the table that it leaves
-answer-cond : {A B : Type 0} (b : Bool) (x : A × B) (y z : A) (v : B) → (b ≡ true → x .0 ≡ y) → cond b x (z, v) .0 ≡ cond b y z
+pub answer-cond : {A B : Type 0} (b : Bool) (x : A × B) (y z : A) (v : B) → (b ≡ true → x .0 ≡ y) → cond b x (z, v) .0 ≡ cond b y z
 answer-cond true x y z v f = f refl
 answer-cond false x y z v f = refl
 

@@ -11,7 +11,7 @@ use Rattle.sessions.specs.History.{Event}
 use Rattle.sessions.specs.declared.Answer.{Answer}
 use Rattle.sessions.specs.Sound.{allReal}
 use Rattle.sessions.specs.Table.{Slot, openSlot, State, fresh, newSlot, withAnswer, turn, afterPlace, afterTakeUp, afterAnswer, afterCollect}
-use Rattle.sessions.proofs.Did.{Did, nothing, places, takes, answers, collects, Places, Answers, Collects}
+use Rattle.sessions.proofs.Did.{Did, nothing, makes, places, takes, answers, collects, Places, Answers, Collects}
 use Rattle.sessions.proofs.Laws.{put-all}
 use Rattle.sessions.proofs.Loops.{all-real-append}
 use Rattle.sessions.proofs.Parts.{Session, SlotSound, open-slot, session, Sound}
@@ -166,7 +166,8 @@ module _ (σ : State) (ok : Sound σ) where
       }
 
 pub sound-kept : {σ σ′ : State} {e : Event} → Did σ e σ′ → Sound σ → Sound σ′
-sound-kept (nothing i) ok = ok
+sound-kept (nothing i q) ok = ok
+sound-kept (makes {max = max} r) ok = fresh-sound max (r .0) (r .1)
 sound-kept {σ} (places w) ok = place-sound σ ok w
 sound-kept {σ} (takes {i = i} w) ok = take-sound σ ok (turn σ i) (w .waits)
 sound-kept {σ} (answers w) ok = answer-sound σ ok w

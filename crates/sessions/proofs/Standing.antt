@@ -31,7 +31,7 @@ module _ (last : ℕ) (slot : ℕ → Slot) (t : ℕ) (ps : List (ℕ × ℕ × 
   pub record Gone : Type 0 where
     pub number : ℕ
     pub what : Slot
-    pub given : t ≤ last
+    pub was-given : t ≤ last
     pub ticket-low : 1 ≤ t
     pub nowhere : (s : ℕ) → slot s .ticket ≡ t → ⊥
     pub one-placing : ps ≡ (number, what .program, what .count) ∷ []
@@ -76,7 +76,7 @@ module _ (last : ℕ) (slot : ℕ → Slot) (t : ℕ) (ps : List (ℕ × ℕ × 
       gone (record {
         number = w .number;
         what = w .what;
-        given = omega (arith, w .given);
+        was-given = omega (arith, w .was-given);
         ticket-low = w .ticket-low;
         nowhere = put-all slot s x (λ i y. y .ticket ≡ t → ⊥) (g (w .ticket-low)) (λ i n. w .nowhere i);
         one-placing = w .one-placing;
@@ -104,7 +104,7 @@ module _ (last : ℕ) (slot : ℕ → Slot) (t : ℕ) (ps : List (ℕ × ℕ × 
   its-placing p n e b (held w) =
       let k : slot (w .number) .ticket ≡ t = rw (w .there) (w .its-ticket) in
       absurd (omega (arith, b (w .number)))
-  its-placing p n e b (gone w) = absurd (omega (arith, w .given))
+  its-placing p n e b (gone w) = absurd (omega (arith, w .was-given))
 
   module _ (here : slot s .ticket ≡ t) (low : 1 ≤ t) (high : t ≤ last) (distinct : (i : ℕ) → slot i .ticket ≡ t → i ≡ s) where
     pub held-at : Standing last slot t ps qs rs → At (slot s) s ps qs rs
@@ -139,7 +139,7 @@ module _ (last : ℕ) (slot : ℕ → Slot) (t : ℕ) (ps : List (ℕ × ℕ × 
         gone (record {
           number = s;
           what = slot s;
-          given = high;
+          was-given = high;
           ticket-low = low;
           nowhere = put-all slot s openSlot (λ i y. y .ticket ≡ t → ⊥) (λ e. omega arith) (λ i n e. n (distinct i e));
           one-placing = h .one-placing;

@@ -1,4 +1,4 @@
--- The calls of a table with their answers, and what can be read off them. Lists of events have the newest first. Assumes nothing.
+-- The calls of a table, with their answers, and what can be read off them. Lists of events have the newest first.
 use Prim.Native.Nat.{ℕ}
 use mathlib.Core.Bool.{cond}
 use mathlib.Core.List.{List, [], _∷_, _++_}
@@ -11,6 +11,14 @@ use Rattle.sessions.specs.declared.Answer.{Answer}
 pub data Lent : Type 0 where
   itself : Lent
   other : List ℕ → Lent
+
+-- Any public call of the table, with any arguments.
+pub data Call : Type 0 where
+  toMake : Lent → (max : ℕ) → Call
+  toPlace : (program count : ℕ) → Call
+  toTakeUp : Call
+  toAnswer : (ticket command : ℕ) → Answer → Call
+  toCollect : (program ticket : ℕ) (output : List ℕ) → Call
 
 -- A call with its answer. A collection has its lent output at entry, the length that it returns, and the output at exit.
 pub data Event : Type 0 where

@@ -19,7 +19,8 @@ ifRoom reply room = cond (leb (length reply) room) (done reply) (refused tooLitt
 -- For a ticket whose placing was by p, with every command answered and nothing collected: its records in order, if there is room.
 unfoldable pub owedOf : ℕ → ℕ → List (ℕ × ℕ × ℕ) → List (ℕ × Answer) → List ℕ → Result (List ℕ)
 owedOf p room [] qs rs = refused notTheOne 0
-owedOf p room (x ∷ ps) qs [] = cond (eqb (x .1) p && eqb (length qs) (x .2)) (ifRoom (records qs) room) (refused notTheOne 0)
+owedOf p room ((number, program, count) ∷ ps) qs [] =
+    cond (eqb program p && eqb (length qs) count) (ifRoom (records qs) room) (refused notTheOne 0)
 owedOf p room (x ∷ ps) qs (r ∷ rs) = refused notTheOne 0
 
 -- What program p, who shows ticket t and has that room, gets after the history h.
