@@ -1,12 +1,11 @@
--- What a C program gets for a refusal is not 0, and holds the number and the place whole. Assumes nothing.
+-- What a C program gets for a refusal is not 0, and holds the number and the place whole.
 use Prim.Native.Nat.{ℕ, _/_, _%_, _≤_, _<_}
 use mathlib.Core.Path.{_≡_}
 use native.Mathlib.Omega.{arith}
-use Rattle.counts.specs.Limits.{fileBytes}
 use Rattle.counts.specs.Result.{refused}
-use Rattle.raddlebrush.specs.Returned.{returned}
+use Rattle.raddlebrush.specs.Returned.{placeLimit, returned}
 
-module _ (number place : ℕ) (low : 1 ≤ number) (high : number ≤ 14) (inside : place ≤ fileBytes) where
+module _ (number place : ℕ) (low : 1 ≤ number) (high : number ≤ 14) (inside : place < placeLimit) where
   pub refusal-is-told : 0 < returned {A = ℕ} (refused number place)
   refusal-is-told = omega arith
 

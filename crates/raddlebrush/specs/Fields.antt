@@ -1,5 +1,5 @@
 -- The fields of a statement as numbers, in the order that the header gives. A string is the place of its opening quote, a name has a place
--- and a length, and a field that is not there is 0. Assumes nothing.
+-- and a length, and a field that is not there is 0.
 use Prim.Native.Nat.{ℕ}
 use mathlib.Core.List.{List, [], _∷_}
 use lib.IntN.{ℤ, pos}
@@ -25,9 +25,9 @@ use Rattle.raddlebrush.specs.declared.fields.StartFields.{StartFields}
 
 -- "ACTIVE or a file spec or a name"
 abbrev pub sourceFields : Source → SourceFields
-sourceFields Active = record { kind = 1; place = 0; length = 0 }
-sourceFields (File quote) = record { kind = 2; place = quote; length = 0 }
-sourceFields (Name p) = record { kind = 3; place = p .place; length = p .length }
+sourceFields Active = record { kind = 1; quote = 0; place = 0; length = 0 }
+sourceFields (File quote) = record { kind = 2; quote = quote; place = 0; length = 0 }
+sourceFields (Name p) = record { kind = 3; quote = 0; place = p .place; length = p .length }
 
 -- "= != > < >= <="
 abbrev pub operatorNumber : Operator → ℕ
@@ -40,8 +40,8 @@ operatorNumber AtMost = 6
 
 -- "then number or string"
 abbrev pub operandFields : Operand → OperandFields
-operandFields (Number n) = record { kind = 1; place = 0; scale = n .scale }
-operandFields (Text quote) = record { kind = 2; place = quote; scale = 0 }
+operandFields (Number n) = record { kind = 1; quote = 0; scale = n .scale }
+operandFields (Text quote) = record { kind = 2; quote = quote; scale = 0 }
 
 -- "with an optional date": 0 is no real date
 abbrev pub dayNumber : Day → ℕ
@@ -58,7 +58,7 @@ conditionFields c = record {
   length = c .name .length;
   operator = operatorNumber (c .operator);
   operand = operandFields (c .operand) .kind;
-  place = operandFields (c .operand) .place;
+  quote = operandFields (c .operand) .quote;
   scale = operandFields (c .operand) .scale;
 }
 
@@ -71,7 +71,7 @@ plainStart kind time date = record {
   length = 0;
   operator = 0;
   operand = 0;
-  place = 0;
+  quote = 0;
   scale = 0;
 }
 
@@ -97,6 +97,7 @@ numbers kind offset next file name aborted s t =
     name .length ∷
     aborted ∷
     s .kind ∷
+    s .quote ∷
     s .place ∷
     s .length ∷
     t .kind ∷
@@ -106,7 +107,7 @@ numbers kind offset next file name aborted s t =
     t .length ∷
     t .operator ∷
     t .operand ∷
-    t .place ∷
+    t .quote ∷
     t .scale ∷
     []
 
@@ -114,7 +115,7 @@ abbrev pub noPart : Part
 noPart = record { place = 0; length = 0 }
 
 abbrev pub noSource : SourceFields
-noSource = record { kind = 0; place = 0; length = 0 }
+noSource = record { kind = 0; quote = 0; place = 0; length = 0 }
 
 abbrev pub movedNumbers : ℕ → ℕ → ℕ → ℕ → Source → Start → List ℕ
 movedNumbers kind offset next file source start = numbers kind offset next file noPart 0 (sourceFields source) (startFields start)

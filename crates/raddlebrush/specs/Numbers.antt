@@ -1,4 +1,4 @@
--- The kinds of document 01 as numbers. Assumes nothing.
+-- The kinds of document 01 as numbers.
 use Prim.Native.Nat.{ℕ}
 use mathlib.Core.Bool.{cond}
 use lib.Dec.{eqb, leb}
@@ -12,8 +12,8 @@ abbrev pub kindNumber : Kind → ℕ
 kindNumber Request = 0
 kindNumber Response = 1
 
-abbrev pub kindOf : ℕ → Kind
-kindOf kind = cond (eqb kind 0) Request Response
+abbrev pub kindGiven : ℕ → Kind
+kindGiven kind = cond (eqb kind 0) Request Response
 
 -- Under a kind that is neither, no number is in its range.
 abbrev pub numberUnder : ℕ → ℕ → ℕ

@@ -1,4 +1,4 @@
--- Outcomes and records as numbers. Assumes nothing.
+-- Outcomes and records as numbers.
 use Prim.Native.Nat.{ℕ, _+_}
 use mathlib.Core.Bool.{cond}
 use mathlib.Core.List.{List, [], _∷_}
@@ -10,13 +10,13 @@ use Rattle.record.specs.declared.Record.{Record}
 use Rattle.sessions.specs.declared.Answer.{Answer}
 
 -- 0 for PROCESSED, 1 for ERROR; a number that is neither gets a class out of its range
-abbrev pub outcomeOf : ℕ → ℕ → ℕ → Outcome
-outcomeOf outcome class code =
+abbrev pub outcomeGiven : ℕ → ℕ → ℕ → Outcome
+outcomeGiven outcome class code =
     cond (eqb outcome 0) Processed (cond (eqb outcome 1) (Error class code) (Error (classMost + 1) 0))
 
 -- an answer to a command
-abbrev pub answerOf : ℕ → ℕ → ℕ → ℕ → ℕ → Answer
-answerOf outcome class code date time = record { outcome = outcomeOf outcome class code; date = date; time = time }
+abbrev pub answerGiven : ℕ → ℕ → ℕ → ℕ → ℕ → Answer
+answerGiven outcome class code date time = record { outcome = outcomeGiven outcome class code; date = date; time = time }
 
 abbrev pub outcomeNumber : Outcome → ℕ
 outcomeNumber Processed = 0

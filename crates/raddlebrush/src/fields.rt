@@ -12,60 +12,61 @@ use token::Operator;
 ghost use mathlib.Core.Path.{_≡_};
 ghost use Rattle.raddlebrush.specs.Fields.{sourceFields, operatorNumber, operandFields, dayNumber, conditionFields, plainStart, startFields, abortedNumber, movedNumbers, plainNumbers, statementNumbers, operandMantissa, startMantissa, mantissaOf};
 
-pub const JOB: u64 = 1;
+pub const STATEMENT_JOB: u64 = 1;
 
-pub const UPLOAD: u64 = 2;
+pub const STATEMENT_UPLOAD: u64 = 2;
 
-pub const DOWNLOAD: u64 = 3;
+pub const STATEMENT_DOWNLOAD: u64 = 3;
 
-pub const GETINFO: u64 = 4;
+pub const STATEMENT_GETINFO: u64 = 4;
 
-pub const ABORT: u64 = 5;
+pub const STATEMENT_ABORT: u64 = 5;
 
-pub const REPORT: u64 = 1;
+pub const ABORTED_REPORT: u64 = 1;
 
-pub const EVENT: u64 = 2;
+pub const ABORTED_EVENT: u64 = 2;
 
-pub const ACTIVE: u64 = 1;
+pub const SOURCE_ACTIVE: u64 = 1;
 
 pub const SOURCE_FILE: u64 = 2;
 
 pub const SOURCE_NAME: u64 = 3;
 
-pub const IMMEDIATE: u64 = 1;
+pub const START_IMMEDIATE: u64 = 1;
 
-pub const TIME: u64 = 2;
+pub const START_AT_TIME: u64 = 2;
 
-pub const CONDITION: u64 = 3;
+pub const START_CONDITION: u64 = 3;
 
-pub const EQUAL: u64 = 1;
+pub const OPERATOR_EQUAL: u64 = 1;
 
-pub const NOT_EQUAL: u64 = 2;
+pub const OPERATOR_NOT_EQUAL: u64 = 2;
 
-pub const ABOVE: u64 = 3;
+pub const OPERATOR_ABOVE: u64 = 3;
 
-pub const BELOW: u64 = 4;
+pub const OPERATOR_BELOW: u64 = 4;
 
-pub const AT_LEAST: u64 = 5;
+pub const OPERATOR_AT_LEAST: u64 = 5;
 
-pub const AT_MOST: u64 = 6;
+pub const OPERATOR_AT_MOST: u64 = 6;
 
 pub const OPERAND_NUMBER: u64 = 1;
 
-pub const OPERAND_TEXT: u64 = 2;
+pub const OPERAND_STRING: u64 = 2;
 
-pub const STATEMENT_FIELDS: usize = 19;
+pub const STATEMENT_NUMBERS: usize = 20;
 
-// A string has a place, a name has a place and a length.
+// A string has the place of its quote, a name a place and a length.
 pub struct SourceFields {
     pub kind: u64,
+    pub quote: u64,
     pub place: u64,
     pub length: u64,
 }
 
 pub struct OperandFields {
     pub kind: u64,
-    pub place: u64,
+    pub quote: u64,
     pub scale: u64,
 }
 
@@ -77,7 +78,7 @@ pub struct StartFields {
     pub length: u64,
     pub operator: u64,
     pub operand: u64,
-    pub place: u64,
+    pub quote: u64,
     pub scale: u64,
 }
 
@@ -86,17 +87,20 @@ fn source_fields(s: Source) -> SourceFields
 {
     match s {
         Source::Active => SourceFields {
-            kind: ACTIVE,
+            kind: SOURCE_ACTIVE,
+            quote: 0,
             place: 0,
             length: 0,
         },
         Source::File(quote) => SourceFields {
             kind: SOURCE_FILE,
-            place: quote as u64,
+            quote: quote as u64,
+            place: 0,
             length: 0,
         },
         Source::Name(p) => SourceFields {
             kind: SOURCE_NAME,
+            quote: 0,
             place: p.place as u64,
             length: p.length as u64,
         },
@@ -107,12 +111,12 @@ fn operator_number(o: Operator) -> u64
     ensures { λ r. ⌜ r ≡ operatorNumber o ⌝ }
 {
     match o {
-        Operator::Equal => EQUAL,
-        Operator::NotEqual => NOT_EQUAL,
-        Operator::Above => ABOVE,
-        Operator::Below => BELOW,
-        Operator::AtLeast => AT_LEAST,
-        Operator::AtMost => AT_MOST,
+        Operator::Equal => OPERATOR_EQUAL,
+        Operator::NotEqual => OPERATOR_NOT_EQUAL,
+        Operator::Above => OPERATOR_ABOVE,
+        Operator::Below => OPERATOR_BELOW,
+        Operator::AtLeast => OPERATOR_AT_LEAST,
+        Operator::AtMost => OPERATOR_AT_MOST,
     }
 }
 
@@ -122,12 +126,12 @@ fn operand_fields(o: Operand) -> OperandFields
     match o {
         Operand::Number(n) => OperandFields {
             kind: OPERAND_NUMBER,
-            place: 0,
+            quote: 0,
             scale: n.scale as u64,
         },
         Operand::Text(quote) => OperandFields {
-            kind: OPERAND_TEXT,
-            place: quote as u64,
+            kind: OPERAND_STRING,
+            quote: quote as u64,
             scale: 0,
         },
     }
@@ -150,14 +154,14 @@ fn condition_fields(c: Condition) -> StartFields
     let x = c.operand;
     let operand = operand_fields(x);
     StartFields {
-        kind: CONDITION,
+        kind: START_CONDITION,
         time: 0,
         date: 0,
         parameter: name.place as u64,
         length: name.length as u64,
         operator: operator_number(o),
         operand: operand.kind,
-        place: operand.place,
+        quote: operand.quote,
         scale: operand.scale,
     }
 }
@@ -174,7 +178,7 @@ fn plain_start(kind: u64, time: u64, date: u64) -> StartFields
         length: 0,
         operator: 0,
         operand: 0,
-        place: 0,
+        quote: 0,
         scale: 0,
     }
 }
@@ -183,8 +187,8 @@ fn start_fields(s: Start) -> StartFields
     ensures { λ r. ⌜ r ≡ startFields s ⌝ }
 {
     match s {
-        Start::Immediate => plain_start(IMMEDIATE, 0, 0),
-        Start::At(time, day) => plain_start(TIME, time as u64, day_number(day)),
+        Start::Immediate => plain_start(START_IMMEDIATE, 0, 0),
+        Start::At(time, day) => plain_start(START_AT_TIME, time as u64, day_number(day)),
         Start::When(c) => condition_fields(c),
     }
 }
@@ -193,8 +197,8 @@ fn aborted_number(a: Aborted) -> u64
     ensures { λ r. ⌜ r ≡ abortedNumber a ⌝ }
 {
     match a {
-        Aborted::Report => REPORT,
-        Aborted::Event => EVENT,
+        Aborted::Report => ABORTED_REPORT,
+        Aborted::Event => ABORTED_EVENT,
     }
 }
 
@@ -206,7 +210,7 @@ fn moved_numbers(
     file: usize,
     source: Source,
     start: Start,
-) -> [u64; 19]
+) -> [u64; 20]
     ensures { λ r. ⌜ r ≡ movedNumbers kind offset next file source start ⌝ }
 {
     let s = source_fields(source);
@@ -220,6 +224,7 @@ fn moved_numbers(
         0,
         0,
         s.kind,
+        s.quote,
         s.place,
         s.length,
         t.kind,
@@ -229,7 +234,7 @@ fn moved_numbers(
         t.length,
         t.operator,
         t.operand,
-        t.place,
+        t.quote,
         t.scale,
     ]
 }
@@ -242,7 +247,7 @@ fn plain_numbers(
     file: usize,
     name: Part,
     aborted: u64,
-) -> [u64; 19]
+) -> [u64; 20]
     ensures { λ r. ⌜ r ≡ plainNumbers kind offset next file name aborted ⌝ }
 {
     let place = name.place as u64;
@@ -267,26 +272,34 @@ fn plain_numbers(
         0,
         0,
         0,
+        0,
     ]
 }
 
-pub fn statement_numbers(s: Statement, offset: usize, next: usize) -> [u64; 19]
+pub fn statement_numbers(s: Statement, offset: usize, next: usize) -> [u64; 20]
     ensures { λ r. ⌜ r ≡ statementNumbers s offset next ⌝ }
 {
     match s {
-        Statement::Job { name, response } => plain_numbers(JOB, offset, next, response, name, 0),
+        Statement::Job { name, response } => plain_numbers(
+            STATEMENT_JOB,
+            offset,
+            next,
+            response,
+            name,
+            0,
+        ),
         Statement::Upload {
             file,
             source,
             start,
-        } => moved_numbers(UPLOAD, offset, next, file, source, start),
+        } => moved_numbers(STATEMENT_UPLOAD, offset, next, file, source, start),
         Statement::Download {
             file,
             source,
             start,
-        } => moved_numbers(DOWNLOAD, offset, next, file, source, start),
+        } => moved_numbers(STATEMENT_DOWNLOAD, offset, next, file, source, start),
         Statement::GetInfo { file } => plain_numbers(
-            GETINFO,
+            STATEMENT_GETINFO,
             offset,
             next,
             file,
@@ -297,7 +310,7 @@ pub fn statement_numbers(s: Statement, offset: usize, next: usize) -> [u64; 19]
             0,
         ),
         Statement::Abort { what, name } => plain_numbers(
-            ABORT,
+            STATEMENT_ABORT,
             offset,
             next,
             0,

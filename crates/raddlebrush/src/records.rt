@@ -11,34 +11,34 @@ ghost use Rattle.counts.specs.Limits.{commands};
 ghost use Rattle.record.specs.Record.{content};
 ghost use Rattle.record.specs.Reading.{recordRead, readSays};
 ghost use Rattle.record.specs.Writing.{written, writtenBytes, writeSays};
-ghost use Rattle.raddlebrush.specs.Records.{outcomeOf, outcomeNumber, classNumber, codeNumber, recordNumbers};
-ghost use Rattle.raddlebrush.specs.Returned.{GivesCount, GivesFields};
+ghost use Rattle.raddlebrush.specs.Records.{outcomeGiven, outcomeNumber, classNumber, codeNumber, recordNumbers};
+ghost use Rattle.raddlebrush.specs.Returned.{GivesCount, GivesNumbers};
 
-pub const PROCESSED: u32 = 0;
+pub const OUTCOME_PROCESSED: u32 = 0;
 
-pub const ERROR: u32 = 1;
+pub const OUTCOME_ERROR: u32 = 1;
 
-pub const RECORD_FIELDS: usize = 8;
+pub const RECORD_NUMBERS: usize = 8;
 
 // A number that is no outcome's gets one that no call accepts.
-pub fn outcome_of(outcome: u32, class: u32, code: u32) -> Outcome
-    ensures { λ r. ⌜ r ≡ outcomeOf outcome class code ⌝ }
+pub fn outcome_given(outcome: u32, class: u32, code: u32) -> Outcome
+    ensures { λ r. ⌜ r ≡ outcomeGiven outcome class code ⌝ }
 {
-    if outcome == PROCESSED {
+    if outcome == OUTCOME_PROCESSED {
         return Outcome::Processed;
     }
-    if outcome == ERROR {
+    if outcome == OUTCOME_ERROR {
         return Outcome::Error(class, code);
     }
     Outcome::Error(CLASS_MOST + 1, 0)
 }
 
-fn give_written(a: Written, count: &mut usize) -> u32
-    ensures { λ r. ⌜ GivesCount (writeSays a) r (now (count .entry)) (now (count .exit)) ⌝ }
+fn give_written(a: Written, used: &mut usize) -> u64
+    ensures { λ r. ⌜ GivesCount (writeSays a) r (now (used .entry)) (now (used .exit)) ⌝ }
 {
     match a {
         Written::Bytes(n) => {
-            *count = n;
+            *used = n;
             0
         }
         Written::Refused(f) => refusal(f),
@@ -55,15 +55,15 @@ pub extern "C" fn rb_write_record(
     date: u32,
     time: u32,
     out: &mut [u8],
-    count: &mut usize,
-) -> u32
-    ensures { λ r. ⌜ GivesCount (written commands (content number (outcomeOf outcome class code) (now (text .entry)) date time) (now (out .entry))) r (now (count .entry)) (now (count .exit))
-        × (now (out .exit) ≡ writtenBytes commands (content number (outcomeOf outcome class code) (now (text .entry)) date time) (now (out .entry))) ⌝ }
+    used: &mut usize,
+) -> u64
+    ensures { λ r. ⌜ GivesCount (written commands (content number (outcomeGiven outcome class code) (now (text .entry)) date time) (now (out .entry))) r (now (used .entry)) (now (used .exit))
+        × (now (out .exit) ≡ writtenBytes commands (content number (outcomeGiven outcome class code) (now (text .entry)) date time) (now (out .entry))) ⌝ }
 {
-    let o = outcome_of(outcome, class, code);
+    let o = outcome_given(outcome, class, code);
     give_written(
         record::write_record(CommandNumber(number), o, date, time, text, out),
-        count,
+        used,
     )
 }
 
@@ -71,8 +71,8 @@ fn outcome_number(o: Outcome) -> u64
     ensures { λ r. ⌜ r ≡ outcomeNumber o ⌝ }
 {
     match o {
-        Outcome::Processed => PROCESSED as u64,
-        Outcome::Error(_, _) => ERROR as u64,
+        Outcome::Processed => OUTCOME_PROCESSED as u64,
+        Outcome::Error(_, _) => OUTCOME_ERROR as u64,
     }
 }
 
@@ -114,12 +114,12 @@ fn record_numbers(x: Record) -> [u64; 8]
     ]
 }
 
-fn give_record(a: RecordRead, fields: &mut [u64; 8]) -> u32
-    ensures { λ r. ⌜ GivesFields recordNumbers (readSays a) r (now (fields .entry)) (now (fields .exit)) ⌝ }
+fn give_record(a: RecordRead, numbers: &mut [u64; 8]) -> u64
+    ensures { λ r. ⌜ GivesNumbers recordNumbers (readSays a) r (now (numbers .entry)) (now (numbers .exit)) ⌝ }
 {
     match a {
         RecordRead::Taken(x) => {
-            *fields = record_numbers(x);
+            *numbers = record_numbers(x);
             0
         }
         RecordRead::Refused(f) => refusal(f),
@@ -127,8 +127,8 @@ fn give_record(a: RecordRead, fields: &mut [u64; 8]) -> u32
 }
 
 #[no_mangle]
-pub extern "C" fn rb_read_record(bytes: &[u8], fields: &mut [u64; 8]) -> u32
-    ensures { λ r. ⌜ GivesFields recordNumbers (recordRead commands (now (bytes .entry))) r (now (fields .entry)) (now (fields .exit)) ⌝ }
+pub extern "C" fn rb_read_record_numbers(bytes: &[u8], numbers: &mut [u64; 8]) -> u64
+    ensures { λ r. ⌜ GivesNumbers recordNumbers (recordRead commands (now (bytes .entry))) r (now (numbers .entry)) (now (numbers .exit)) ⌝ }
 {
-    give_record(record::read_record(bytes), fields)
+    give_record(record::read_record(bytes), numbers)
 }

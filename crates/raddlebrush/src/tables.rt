@@ -1,5 +1,5 @@
 // The session table.
-use crate::records::outcome_of;
+use crate::records::outcome_given;
 use crate::refusal;
 use counts::CommandNumber;
 use counts::Ticket;
@@ -13,10 +13,11 @@ ghost use lib.ListN.{length};
 ghost use Rattle.counts.specs.Result.{counted};
 ghost use Rattle.session_table.specs.Paper.{paperMade, paperPlaced, paperTakenUp, paperAnswered, paperCollected};
 ghost use Rattle.session_table.specs.Calls.{making, madeBytes, placing, placedBytes, takingUp, takenBytes, answering, answeredBytes, collecting, collectedBytes, collectedOut};
-ghost use Rattle.raddlebrush.specs.Records.{answerOf};
+ghost use Rattle.table_sound.specs.Bytes.{soundBytes};
+ghost use Rattle.raddlebrush.specs.Records.{answerGiven};
 ghost use Rattle.raddlebrush.specs.Returned.{returned, GivesCount, GivesPlaced, GivesTaken};
 
-fn give_made(a: Made) -> u32
+fn give_made(a: Made) -> u64
     ensures { λ r. ⌜ r ≡ returned (paperMade a) ⌝ }
 {
     match a {
@@ -26,13 +27,13 @@ fn give_made(a: Made) -> u32
 }
 
 #[no_mangle]
-pub extern "C" fn rb_make(table: &mut [u8], max: u32) -> u32
+pub extern "C" fn rb_table_make(table: &mut [u8], max: u32) -> u64
     ensures { λ r. ⌜ (r ≡ returned (making (now (table .entry)) max)) × (now (table .exit) ≡ madeBytes (now (table .entry)) max) ⌝ }
 {
     give_made(session_table::make(table, max))
 }
 
-fn give_placed(a: Placed, number: &mut u32, ticket: &mut u32) -> u32
+fn give_placed(a: Placed, number: &mut u32, ticket: &mut u32) -> u64
     ensures { λ r. ⌜ GivesPlaced (paperPlaced a) r (now (number .entry)) (now (number .exit)) (now (ticket .entry)) (now (ticket .exit)) ⌝ }
 {
     match a {
@@ -46,20 +47,24 @@ fn give_placed(a: Placed, number: &mut u32, ticket: &mut u32) -> u32
 }
 
 #[no_mangle]
-pub extern "C" fn rb_place(
+pub extern "C" fn rb_table_place(
     table: &mut [u8],
     program: u32,
-    count: u32,
+    commands: u32,
     number: &mut u32,
     ticket: &mut u32,
-) -> u32
-    ensures { λ r. ⌜ GivesPlaced (placing (now (table .entry)) program count) r (now (number .entry)) (now (number .exit)) (now (ticket .entry)) (now (ticket .exit))
-        × (now (table .exit) ≡ placedBytes (now (table .entry)) program count) ⌝ }
+) -> u64
+    ensures { λ r. ⌜ GivesPlaced (placing (now (table .entry)) program commands) r (now (number .entry)) (now (number .exit)) (now (ticket .entry)) (now (ticket .exit))
+        × (now (table .exit) ≡ placedBytes (now (table .entry)) program commands) ⌝ }
 {
-    give_placed(session_table::place(table, program, count), number, ticket)
+    give_placed(
+        session_table::place(table, program, commands),
+        number,
+        ticket,
+    )
 }
 
-fn give_taken(a: TakenUp, number: &mut u32, ticket: &mut u32, command: &mut u32) -> u32
+fn give_taken(a: TakenUp, number: &mut u32, ticket: &mut u32, command: &mut u32) -> u64
     ensures { λ r. ⌜ GivesTaken (paperTakenUp a) r (now (number .entry)) (now (number .exit)) (now (ticket .entry)) (now (ticket .exit)) (now (command .entry)) (now (command .exit)) ⌝ }
 {
     match a {
@@ -74,19 +79,19 @@ fn give_taken(a: TakenUp, number: &mut u32, ticket: &mut u32, command: &mut u32)
 }
 
 #[no_mangle]
-pub extern "C" fn rb_take_up(
+pub extern "C" fn rb_table_take_up(
     table: &mut [u8],
     number: &mut u32,
     ticket: &mut u32,
     command: &mut u32,
-) -> u32
+) -> u64
     ensures { λ r. ⌜ GivesTaken (takingUp (now (table .entry))) r (now (number .entry)) (now (number .exit)) (now (ticket .entry)) (now (ticket .exit)) (now (command .entry)) (now (command .exit))
         × (now (table .exit) ≡ takenBytes (now (table .entry))) ⌝ }
 {
     give_taken(session_table::take_up(table), number, ticket, command)
 }
 
-fn give_answered(a: Answered) -> u32
+fn give_answered(a: Answered) -> u64
     ensures { λ r. ⌜ r ≡ returned (paperAnswered a) ⌝ }
 {
     match a {
@@ -96,7 +101,7 @@ fn give_answered(a: Answered) -> u32
 }
 
 #[no_mangle]
-pub extern "C" fn rb_answer(
+pub extern "C" fn rb_table_answer(
     table: &mut [u8],
     ticket: u32,
     command: u32,
@@ -105,11 +110,11 @@ pub extern "C" fn rb_answer(
     code: u32,
     date: u32,
     time: u32,
-) -> u32
-    ensures { λ r. ⌜ (r ≡ returned (answering (now (table .entry)) ticket command (answerOf outcome class code date time)))
-        × (now (table .exit) ≡ answeredBytes (now (table .entry)) ticket command (answerOf outcome class code date time)) ⌝ }
+) -> u64
+    ensures { λ r. ⌜ (r ≡ returned (answering (now (table .entry)) ticket command (answerGiven outcome class code date time)))
+        × (now (table .exit) ≡ answeredBytes (now (table .entry)) ticket command (answerGiven outcome class code date time)) ⌝ }
 {
-    let o = outcome_of(outcome, class, code);
+    let o = outcome_given(outcome, class, code);
     give_answered(session_table::answer(
         table,
         Ticket(ticket),
@@ -120,12 +125,12 @@ pub extern "C" fn rb_answer(
     ))
 }
 
-fn give_collected(a: Collected, count: &mut usize) -> u32
-    ensures { λ r. ⌜ GivesCount (paperCollected a) r (now (count .entry)) (now (count .exit)) ⌝ }
+fn give_collected(a: Collected, used: &mut usize) -> u64
+    ensures { λ r. ⌜ GivesCount (paperCollected a) r (now (used .entry)) (now (used .exit)) ⌝ }
 {
     match a {
         Collected::Written(n) => {
-            *count = n;
+            *used = n;
             0
         }
         Collected::Refused(f) => refusal(f),
@@ -133,19 +138,26 @@ fn give_collected(a: Collected, count: &mut usize) -> u32
 }
 
 #[no_mangle]
-pub extern "C" fn rb_collect(
+pub extern "C" fn rb_table_collect(
     table: &mut [u8],
     program: u32,
     ticket: u32,
     out: &mut [u8],
-    count: &mut usize,
-) -> u32
-    ensures { λ r. ⌜ GivesCount (counted (collecting (now (table .entry)) program ticket (length (now (out .entry))))) r (now (count .entry)) (now (count .exit))
+    used: &mut usize,
+) -> u64
+    ensures { λ r. ⌜ GivesCount (counted (collecting (now (table .entry)) program ticket (length (now (out .entry))))) r (now (used .entry)) (now (used .exit))
         × (now (table .exit) ≡ collectedBytes (now (table .entry)) program ticket (length (now (out .entry))))
         × (now (out .exit) ≡ collectedOut (now (table .entry)) program ticket (now (out .entry))) ⌝ }
 {
     give_collected(
         session_table::collect(table, program, Ticket(ticket), out),
-        count,
+        used,
     )
+}
+
+#[no_mangle]
+pub extern "C" fn rb_is_sound(table: &[u8]) -> bool
+    ensures { λ r. ⌜ r ≡ soundBytes (now (table .entry)) ⌝ }
+{
+    table_sound::is_sound(table)
 }

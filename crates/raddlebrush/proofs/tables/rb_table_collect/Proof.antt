@@ -1,6 +1,6 @@
 use borrow.Author.Needs.{needs}
-use Rattle.raddlebrush.proofs.tables.rb_collect.Statement.{statement}
-use Rattle.raddlebrush.proofs.tables.rb_collect.Tie as tie
+use Rattle.raddlebrush.proofs.tables.rb_table_collect.Statement.{statement}
+use Rattle.raddlebrush.proofs.tables.rb_table_collect.Tie as tie
 
 collect-requires : tie.Need-collect-requires
 collect-requires c κs = search needs
@@ -17,6 +17,6 @@ same-length-2 c = search needs
 returns : tie.Need-returns
 returns c = let a = c .before .before .before .before .before .before .collect .ensures in (rw (← a .answer) (c .give-collected .ensures), a .table, a .output)
 
-pub rb-collect-spec : {M : Type 1} → statement M
-rb-collect-spec =
+pub rb-table-collect-spec : {M : Type 1} → statement M
+rb-table-collect-spec =
     tie.close (tie.spec collect-requires give-collected-requires same-length same-length-2 returns)

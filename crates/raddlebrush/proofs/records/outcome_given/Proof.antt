@@ -1,7 +1,7 @@
 use Rattle.laws.proofs.Choose.{choose}
 use borrow.Author.Needs.{needs}
-use Rattle.raddlebrush.proofs.records.outcome_of.Statement.{statement}
-use Rattle.raddlebrush.proofs.records.outcome_of.Tie as tie
+use Rattle.raddlebrush.proofs.records.outcome_given.Statement.{statement}
+use Rattle.raddlebrush.proofs.records.outcome_given.Tie as tie
 
 returns : tie.Need-returns
 returns c = search choose depth 9
@@ -15,5 +15,5 @@ add-t5 c = search needs
 returns-3 : tie.Need-returns-3
 returns-3 c = search choose depth 9
 
-pub outcome-of-spec : {M : Type 1} → statement M
-outcome-of-spec = tie.close (tie.spec returns returns-2 add-t5 returns-3)
+pub outcome-given-spec : {M : Type 1} → statement M
+outcome-given-spec = tie.close (tie.spec returns returns-2 add-t5 returns-3)

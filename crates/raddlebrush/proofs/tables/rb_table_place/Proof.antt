@@ -1,6 +1,6 @@
 use borrow.Author.Needs.{needs}
-use Rattle.raddlebrush.proofs.tables.rb_place.Statement.{statement}
-use Rattle.raddlebrush.proofs.tables.rb_place.Tie as tie
+use Rattle.raddlebrush.proofs.tables.rb_table_place.Statement.{statement}
+use Rattle.raddlebrush.proofs.tables.rb_table_place.Tie as tie
 
 place-requires : tie.Need-place-requires
 place-requires c κs = search needs
@@ -14,5 +14,5 @@ same-length c = search needs
 returns : tie.Need-returns
 returns c = let a = c .before .before .before .before .before .place .ensures in (rw (← a .0) (c .give-placed .ensures), a .1)
 
-pub rb-place-spec : {M : Type 1} → statement M
-rb-place-spec = tie.close (tie.spec place-requires give-placed-requires same-length returns)
+pub rb-table-place-spec : {M : Type 1} → statement M
+rb-table-place-spec = tie.close (tie.spec place-requires give-placed-requires same-length returns)

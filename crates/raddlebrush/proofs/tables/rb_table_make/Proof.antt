@@ -1,6 +1,6 @@
 use borrow.Author.Needs.{needs}
-use Rattle.raddlebrush.proofs.tables.rb_make.Statement.{statement}
-use Rattle.raddlebrush.proofs.tables.rb_make.Tie as tie
+use Rattle.raddlebrush.proofs.tables.rb_table_make.Statement.{statement}
+use Rattle.raddlebrush.proofs.tables.rb_table_make.Tie as tie
 
 make-requires : tie.Need-make-requires
 make-requires c κs = search needs
@@ -14,5 +14,5 @@ same-length c = search needs
 returns : tie.Need-returns
 returns c = let a = c .before .before .before .make .ensures in (rw (← a .0) (c .give-made .ensures), a .1)
 
-pub rb-make-spec : {M : Type 1} → statement M
-rb-make-spec = tie.close (tie.spec make-requires give-made-requires same-length returns)
+pub rb-table-make-spec : {M : Type 1} → statement M
+rb-table-make-spec = tie.close (tie.spec make-requires give-made-requires same-length returns)

@@ -1,6 +1,6 @@
 use borrow.Author.Needs.{needs}
-use Rattle.raddlebrush.proofs.tables.rb_take_up.Statement.{statement}
-use Rattle.raddlebrush.proofs.tables.rb_take_up.Tie as tie
+use Rattle.raddlebrush.proofs.tables.rb_table_take_up.Statement.{statement}
+use Rattle.raddlebrush.proofs.tables.rb_table_take_up.Tie as tie
 
 take-up-requires : tie.Need-take-up-requires
 take-up-requires c κs = search needs
@@ -14,5 +14,5 @@ same-length c = search needs
 returns : tie.Need-returns
 returns c = let a = c .before .before .before .before .before .before .take-up .ensures in (rw (← a .0) (c .give-taken .ensures), a .1)
 
-pub rb-take-up-spec : {M : Type 1} → statement M
-rb-take-up-spec = tie.close (tie.spec take-up-requires give-taken-requires same-length returns)
+pub rb-table-take-up-spec : {M : Type 1} → statement M
+rb-table-take-up-spec = tie.close (tie.spec take-up-requires give-taken-requires same-length returns)
