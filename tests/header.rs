@@ -220,7 +220,7 @@ fn derived(c: &BTreeMap<String, u64>) -> Vec<(&'static str, u64)> {
 fn main() {
     let (header, inlines) = without_inlines(&without_comments(&fs::read_to_string("include/raddlebrush.h").unwrap()));
     let rattle = source("raddlebrush");
-    let mut known = rattle_constants(&(source("counts") + &source("session_name") + &rattle));
+    let mut known = rattle_constants(&(source("counts") + &source("session_name") + &source("c_numbers") + &rattle));
     known.extend(derived(&known).into_iter().map(|(name, value)| (name.to_string(), value)));
     let constants = header_constants(&header);
     let mut faults = 0;

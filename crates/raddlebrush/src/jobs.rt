@@ -1,28 +1,13 @@
 // Job files.
-use crate::fields::mantissa_of;
-use crate::fields::statement_numbers;
-use crate::refusal;
-use job::JobAnswer;
-use job::StatementAnswer;
+use c_answers::jobs::give_job;
+use c_answers::jobs::give_statement;
 ghost use mathlib.Core.Path.{_≡_};
 ghost use lib.ListN.{length};
 ghost use Rattle.counts.specs.Result.{counted};
 ghost use Rattle.token.specs.Token.{isTextAt};
-ghost use Rattle.job.specs.Job.{readJob, filled, jobSays};
-ghost use Rattle.job.specs.Statement.{readStatement, statementSays, textAt};
-ghost use Rattle.raddlebrush.specs.Returned.{GivesCount, GivesStatement};
-
-fn give_job(a: JobAnswer, statements: &mut usize) -> u64
-    ensures { λ r. ⌜ GivesCount (jobSays a) r (now (statements .entry)) (now (statements .exit)) ⌝ }
-{
-    match a {
-        JobAnswer::Taken(n) => {
-            *statements = n;
-            0
-        }
-        JobAnswer::Refused(f) => refusal(f),
-    }
-}
+ghost use Rattle.job.specs.Job.{readJob, filled};
+ghost use Rattle.job.specs.Statement.{readStatement, textAt};
+ghost use Rattle.c_answers.specs.Returned.{GivesCount, GivesStatement};
 
 #[no_mangle]
 pub extern "C" fn rb_read_job(file: &[u8], offsets: &mut [u32], statements: &mut usize) -> u64
@@ -30,20 +15,6 @@ pub extern "C" fn rb_read_job(file: &[u8], offsets: &mut [u32], statements: &mut
         × (now (offsets .exit) ≡ filled (readJob (now (file .entry)) (length (now (offsets .entry)))) (now (offsets .entry))) ⌝ }
 {
     give_job(job::read_job(file, offsets), statements)
-}
-
-fn give_statement(a: StatementAnswer, numbers: &mut [u64; 20], mantissa: &mut i64) -> u64
-    ensures { λ r. ⌜ GivesStatement (statementSays a) r (now (numbers .entry)) (now (numbers .exit)) (now (mantissa .entry)) (now (mantissa .exit)) ⌝ }
-{
-    match a {
-        StatementAnswer::Read(x) => {
-            let s = x.statement;
-            *numbers = statement_numbers(s, x.offset, x.next);
-            *mantissa = mantissa_of(s);
-            0
-        }
-        StatementAnswer::Refused(f) => refusal(f),
-    }
 }
 
 #[no_mangle]

@@ -1,49 +1,25 @@
 // The session table.
-use crate::records::outcome_given;
-use crate::refusal;
+use c_answers::tables::give_answered;
+use c_answers::tables::give_collected;
+use c_answers::tables::give_made;
+use c_answers::tables::give_placed;
+use c_answers::tables::give_taken;
+use c_numbers::records::outcome_given;
 use counts::CommandNumber;
 use counts::Ticket;
-use session_table::Answered;
-use session_table::Collected;
-use session_table::Made;
-use session_table::Placed;
-use session_table::TakenUp;
 ghost use mathlib.Core.Path.{_≡_};
 ghost use lib.ListN.{length};
 ghost use Rattle.counts.specs.Result.{counted};
-ghost use Rattle.session_table.specs.Paper.{paperMade, paperPlaced, paperTakenUp, paperAnswered, paperCollected};
-ghost use Rattle.session_table.specs.Calls.{making, madeBytes, placing, placedBytes, takingUp, takenBytes, answering, answeredBytes, collecting, collectedBytes, collectedOut};
 ghost use Rattle.table_sound.specs.Bytes.{soundBytes};
-ghost use Rattle.raddlebrush.specs.Records.{answerGiven};
-ghost use Rattle.raddlebrush.specs.Returned.{returned, GivesCount, GivesPlaced, GivesTaken};
-
-fn give_made(a: Made) -> u64
-    ensures { λ r. ⌜ r ≡ returned (paperMade a) ⌝ }
-{
-    match a {
-        Made::Fresh => 0,
-        Made::Refused(f) => refusal(f),
-    }
-}
+ghost use Rattle.session_table.specs.Calls.{making, madeBytes, placing, placedBytes, takingUp, takenBytes, answering, answeredBytes, collecting, collectedBytes, collectedOut};
+ghost use Rattle.c_numbers.specs.Records.{answerGiven};
+ghost use Rattle.c_answers.specs.Returned.{returned, GivesCount, GivesPlaced, GivesTaken};
 
 #[no_mangle]
 pub extern "C" fn rb_table_make(table: &mut [u8], max: u32) -> u64
     ensures { λ r. ⌜ (r ≡ returned (making (now (table .entry)) max)) × (now (table .exit) ≡ madeBytes (now (table .entry)) max) ⌝ }
 {
     give_made(session_table::make(table, max))
-}
-
-fn give_placed(a: Placed, number: &mut u32, ticket: &mut u32) -> u64
-    ensures { λ r. ⌜ GivesPlaced (paperPlaced a) r (now (number .entry)) (now (number .exit)) (now (ticket .entry)) (now (ticket .exit)) ⌝ }
-{
-    match a {
-        Placed::At(s, t) => {
-            *number = s.0;
-            *ticket = t.0;
-            0
-        }
-        Placed::Refused(f) => refusal(f),
-    }
 }
 
 #[no_mangle]
@@ -64,20 +40,6 @@ pub extern "C" fn rb_table_place(
     )
 }
 
-fn give_taken(a: TakenUp, number: &mut u32, ticket: &mut u32, command: &mut u32) -> u64
-    ensures { λ r. ⌜ GivesTaken (paperTakenUp a) r (now (number .entry)) (now (number .exit)) (now (ticket .entry)) (now (ticket .exit)) (now (command .entry)) (now (command .exit)) ⌝ }
-{
-    match a {
-        TakenUp::Given(s, t, c) => {
-            *number = s.0;
-            *ticket = t.0;
-            *command = c.0;
-            0
-        }
-        TakenUp::Refused(f) => refusal(f),
-    }
-}
-
 #[no_mangle]
 pub extern "C" fn rb_table_take_up(
     table: &mut [u8],
@@ -89,15 +51,6 @@ pub extern "C" fn rb_table_take_up(
         × (now (table .exit) ≡ takenBytes (now (table .entry))) ⌝ }
 {
     give_taken(session_table::take_up(table), number, ticket, command)
-}
-
-fn give_answered(a: Answered) -> u64
-    ensures { λ r. ⌜ r ≡ returned (paperAnswered a) ⌝ }
-{
-    match a {
-        Answered::Accepted => 0,
-        Answered::Refused(f) => refusal(f),
-    }
 }
 
 #[no_mangle]
@@ -123,18 +76,6 @@ pub extern "C" fn rb_table_answer(
         date,
         time,
     ))
-}
-
-fn give_collected(a: Collected, used: &mut usize) -> u64
-    ensures { λ r. ⌜ GivesCount (paperCollected a) r (now (used .entry)) (now (used .exit)) ⌝ }
-{
-    match a {
-        Collected::Written(n) => {
-            *used = n;
-            0
-        }
-        Collected::Refused(f) => refusal(f),
-    }
 }
 
 #[no_mangle]

@@ -18,7 +18,10 @@ same-length : tie.Need-same-length
 same-length c = search needs
 
 returns : tie.Need-returns
-returns c = let a = c .before .before .before .before .write-name .ensures in rw (← c .before .before .before .before .before .before .kind-given .ensures, ← c .before .before .before .before .before .before .before .number-under .ensures) (rw (← a .0) (c .give-written .ensures), a .1)
+returns c =
+    let a = c .before .before .before .before .write-name .ensures in
+    let k = c .before .before .before .before .before .before in
+    rw (← k .kind-given .ensures, ← k .before .number-under .ensures) (rw (← a .0) (c .give-written .ensures), a .1)
 
 pub rb-write-file-name-spec : {M : Type 1} → statement M
 rb-write-file-name-spec =

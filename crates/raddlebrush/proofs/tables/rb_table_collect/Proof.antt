@@ -15,7 +15,9 @@ same-length-2 : tie.Need-same-length-2
 same-length-2 c = search needs
 
 returns : tie.Need-returns
-returns c = let a = c .before .before .before .before .before .before .collect .ensures in (rw (← a .answer) (c .give-collected .ensures), a .table, a .output)
+returns c =
+    let a = c .before .before .before .before .before .before .collect .ensures in
+    (rw (← a .answer) (c .give-collected .ensures), a .table, a .output)
 
 pub rb-table-collect-spec : {M : Type 1} → statement M
 rb-table-collect-spec =
