@@ -44,7 +44,8 @@ static rb_ticket ticket;
 static rb_command_number command;
 
 static struct {
-    uint32_t returned, offsets[64];
+    rb_result returned;
+    uint32_t offsets[64];
     rb_session_number number;
     rb_ticket ticket;
     rb_command_number command;
@@ -158,10 +159,10 @@ static void ours(enum call call) {
     switch (call) {
     case READ: left.returned = rb_read_job(file, file_bytes, left.offsets, 64, &left.count); break;
     case WRITE: left.returned = rb_write_record((rb_command_number){17}, outcome, 7, 120045, text, text_bytes, 20240430, 60000, left.out, 400, &left.count); break;
-    case PLACE: left.returned = rb_place(table, sizeof table, 5, 12, &left.number, &left.ticket); restore(); break;
-    case TAKE_UP: left.returned = rb_take_up(table, sizeof table, &left.number, &left.ticket, &left.command); restore(); break;
-    case ANSWER: left.returned = rb_answer(table, sizeof table, ticket, command, 1, 7, 120045, 20240430, 60000); restore(); break;
-    case COLLECT: left.returned = rb_collect(table, sizeof table, program, ticket, left.out, sizeof left.out, &left.count); restore(); break;
+    case PLACE: left.returned = rb_table_place(table, sizeof table, 5, 12, &left.number, &left.ticket); restore(); break;
+    case TAKE_UP: left.returned = rb_table_take_up(table, sizeof table, &left.number, &left.ticket, &left.command); restore(); break;
+    case ANSWER: left.returned = rb_table_answer(table, sizeof table, ticket, command, 1, 7, 120045, 20240430, 60000); restore(); break;
+    case COLLECT: left.returned = rb_table_collect(table, sizeof table, program, ticket, left.out, sizeof left.out, &left.count); restore(); break;
     }
 }
 
@@ -259,7 +260,7 @@ static void compare(const struct measured *c) {
     set_up(c);
     theirs(c->call);
     if (memcmp(first, &left, sizeof left)) {
-        printf("%s: the two sides differ: %u and %u\n", c->name, ((uint32_t *)(void *)first)[0], left.returned);
+        printf("%s: the two sides differ: %u and %u\n", c->name, first[0], rb_refusal_number(left.returned));
         exit(1);
     }
 }

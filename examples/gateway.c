@@ -24,7 +24,7 @@ struct session {
     uint32_t program, count;
     bool written;                   /* its reply stands in the share */
     bool held;                      /* only the number is held: its request is refused */
-    char jobs[RB_COMMANDS + 1][64]; /* of each command, and one place that shows that there are too many */
+    char jobs[RB_MAX_COMMANDS + 1][64]; /* of each command, and one place that shows that there are too many */
 };
 
 static uint8_t table[RB_TABLE_BYTES], copy[RB_TABLE_BYTES];
@@ -33,19 +33,19 @@ static const char *share;
 static uint32_t date, time_of_day;
 
 /* For calls that have no reason to refuse. */
-static void must(uint32_t returned, const char *what) {
-    if (returned == RB_DONE) return;
-    printf("%s: refused with %u\n", what, rb_number(returned));
+static void must(rb_result result, const char *what) {
+    if (result == RB_DONE) return;
+    printf("%s: refused with %u\n", what, rb_refusal_number(result));
     exit(1);
 }
 
 /* The path of a session's file. */
 static const char *session_file(uint32_t number, uint32_t kind) {
     static char path[400];
-    uint8_t name[RB_NAME_BYTES];
-    size_t written;
-    must(rb_write_name((rb_session_number){number}, kind, MAX_SESSIONS, name, sizeof name, &written), "name");
-    snprintf(path, sizeof path, "%s/%.*s", share, (int)written, (const char *)name);
+    uint8_t name[RB_FILE_NAME_BYTES];
+    size_t used;
+    must(rb_write_file_name((rb_session_number){number}, kind, MAX_SESSIONS, name, sizeof name, &used), "name");
+    snprintf(path, sizeof path, "%s/%.*s", share, (int)used, (const char *)name);
     return path;
 }
 
@@ -54,7 +54,7 @@ static const char *session_file(uint32_t number, uint32_t kind) {
 /* The program's number and the job of each command, one to a line. */
 static bool read_request(FILE *f, struct session *s) {
     if (fscanf(f, "%9u%*[^\n]", &s->program) == 1)
-        while (s->count <= RB_COMMANDS && fscanf(f, " %63[^\r\n]%*[^\n]", s->jobs[s->count]) == 1) s->count++;
+        while (s->count <= RB_MAX_COMMANDS && fscanf(f, " %63[^\r\n]%*[^\n]", s->jobs[s->count]) == 1) s->count++;
     return !ferror(f);
 }
 
@@ -63,7 +63,7 @@ static void hold(uint32_t n) {
     struct session s = {.program = 1, .count = 1, .held = true};
     rb_session_number number;
     memcpy(copy, table, sizeof table);
-    if (rb_place(copy, sizeof copy, s.program, s.count, &number, &s.ticket) != RB_DONE || number.n != n) return;
+    if (rb_table_place(copy, sizeof copy, s.program, s.count, &number, &s.ticket) != RB_DONE || number.n != n) return;
     memcpy(table, copy, sizeof table);
     sessions[n] = s;
 }
@@ -75,7 +75,7 @@ static void place_request(uint32_t n) {
     struct session s = {.count = 0};
     rb_session_number number;
     if (sessions[n].ticket.n) return;
-    FILE *f = fopen(session_file(n, RB_REQUEST), "r");
+    FILE *f = fopen(session_file(n, RB_FILE_REQUEST), "r");
     if (!f && errno == ENOENT) return;
     bool was_read = f && read_request(f, &s);
     if (f) fclose(f);
@@ -85,9 +85,9 @@ static void place_request(uint32_t n) {
         return;
     }
     memcpy(copy, table, sizeof table);
-    uint32_t no = rb_place(copy, sizeof copy, s.program, s.count, &number, &s.ticket);
+    rb_result no = rb_table_place(copy, sizeof copy, s.program, s.count, &number, &s.ticket);
     if (no != RB_DONE) {
-        printf("request %u left alone: program %u, %u commands, refused with %u\n", n, s.program, s.count, rb_number(no));
+        printf("request %u left alone: program %u, %u commands, refused with %u\n", n, s.program, s.count, rb_refusal_number(no));
         hold(n);
         return;
     }
@@ -104,34 +104,34 @@ static void place_request(uint32_t n) {
 
 static void show_statement(const uint8_t *file, size_t n, uint32_t offset) {
     static const char *const kinds[] = {"", "JOB", "UPLOAD", "DOWNLOAD", "GETINFO", "ABORT"};
-    uint64_t s[RB_STATEMENT_FIELDS];
-    int64_t mantissa;
-    must(rb_read_statement(file, n, offset, s, &mantissa), "statement");
-    printf("    %s", kinds[s[RB_KIND]]);
-    if (s[RB_KIND] != RB_ABORT) printf(" \"%.*s\"", (int)rb_text_at(file, n, s[RB_FILE]), (const char *)file + s[RB_FILE] + 1);
-    if (s[RB_NAME_LENGTH]) printf(" %.*s", (int)s[RB_NAME_LENGTH], (const char *)file + s[RB_NAME]);
-    if (s[RB_START] == RB_TIME) printf(", not before %06u", (unsigned)s[RB_START_TIME]);
-    if (s[RB_OPERAND] == RB_OPERAND_NUMBER)
-        printf(", on %.*s and %lld (scale %u)", (int)s[RB_PARAMETER_LENGTH], (const char *)file + s[RB_PARAMETER], (long long)mantissa,
-               (unsigned)s[RB_SCALE]);
+    rb_statement s;
+    must(rb_read_statement(file, n, offset, &s), "statement");
+    printf("    %s", kinds[s.kind]);
+    if (s.kind != RB_STATEMENT_ABORT)
+        printf(" \"%.*s\"", (int)rb_text_length(file, n, s.file_quote), (const char *)file + s.file_quote + 1);
+    if (s.name.length) printf(" %.*s", (int)s.name.length, (const char *)file + s.name.place);
+    if (s.start_kind == RB_START_AT_TIME) printf(", not before %06u", s.start_time);
+    if (s.operand_kind == RB_OPERAND_NUMBER)
+        printf(", on %.*s and %lld (scale %u)", (int)s.parameter.length, (const char *)file + s.parameter.place, (long long)s.mantissa,
+               s.scale);
     printf("\n");
 }
 
 /* Reads a job file of the share: RB_DONE, or what it is refused with. A name that fills its place, and so may be cut, is out of range, and
  * so is one that leads elsewhere or to no file. */
-static uint32_t run_job(const char *name) {
-    static uint8_t file[RB_FILE_BYTES + 1];
-    uint32_t offsets[RB_STATEMENTS];
+static rb_result run_job(const char *name) {
+    static uint8_t file[RB_MAX_JOB_BYTES + 1];
+    uint32_t offsets[RB_MAX_STATEMENTS];
     size_t statements, n;
     char path[400];
     snprintf(path, sizeof path, "%s/%s", share, name);
     FILE *f = strlen(name) > 62 || strchr(name, '/') ? NULL : fopen(path, "rb");
-    if (!f) return RB_OUT_OF_RANGE;
+    if (!f) return RB_REFUSAL_OUT_OF_RANGE;
     n = fread(file, 1, sizeof file, f);
     bool was_read = !ferror(f);
     fclose(f);
-    if (!was_read) return RB_OUT_OF_RANGE;
-    uint32_t no = rb_read_job(file, n, offsets, RB_STATEMENTS, &statements);
+    if (!was_read) return RB_REFUSAL_OUT_OF_RANGE;
+    rb_result no = rb_read_job(file, n, offsets, RB_MAX_STATEMENTS, &statements);
     if (no != RB_DONE) return no;
     for (size_t i = 0; i < statements; i++) show_statement(file, n, offsets[i]);
     return RB_DONE;
@@ -140,14 +140,14 @@ static uint32_t run_job(const char *name) {
 static void serve(rb_session_number number, rb_ticket ticket, rb_command_number command) {
     const char *job = sessions[number.n].jobs[command.n - 1];
     if (sessions[number.n].held) {
-        must(rb_answer(table, sizeof table, ticket, command, RB_ERROR, 0, 0, date, time_of_day), "answer");
+        must(rb_table_answer(table, sizeof table, ticket, command, RB_OUTCOME_ERROR, 0, 0, date, time_of_day), "answer");
         return;
     }
     printf("session %u, command %u: %s\n", number.n, command.n, job);
-    uint32_t no = run_job(job);
-    if (no != RB_DONE) printf("    refused: %u at %u\n", rb_number(no), rb_place_of(no));
-    uint32_t outcome = no == RB_DONE ? RB_PROCESSED : RB_ERROR;
-    must(rb_answer(table, sizeof table, ticket, command, outcome, 1, rb_number(no), date, time_of_day), "answer");
+    rb_result no = run_job(job);
+    if (no != RB_DONE) printf("    refused: %u at %zu\n", rb_refusal_number(no), rb_refusal_place(no));
+    uint32_t outcome = no == RB_DONE ? RB_OUTCOME_PROCESSED : RB_OUTCOME_ERROR;
+    must(rb_table_answer(table, sizeof table, ticket, command, outcome, 1, rb_refusal_number(no), date, time_of_day), "answer");
 }
 
 /* ---- replies */
@@ -156,19 +156,19 @@ static void serve(rb_session_number number, rb_ticket ticket, rb_command_number 
  * what cannot be written yet is there in the next round. */
 static void write_reply(uint32_t n) {
     struct session *s = &sessions[n];
-    uint8_t reply[RB_REPLY_BYTES];
-    size_t count;
+    uint8_t reply[RB_MAX_REPLY_BYTES];
+    size_t used;
     if (!s->ticket.n || s->written || s->held) return;
     memcpy(copy, table, sizeof table);
-    if (rb_collect(copy, sizeof copy, s->program, s->ticket, reply, sizeof reply, &count) != RB_DONE) return;
-    FILE *f = fopen(session_file(n, RB_RESPONSE), "wbx");
+    if (rb_table_collect(copy, sizeof copy, s->program, s->ticket, reply, sizeof reply, &used) != RB_DONE) return;
+    FILE *f = fopen(session_file(n, RB_FILE_RESPONSE), "wbx");
     if (!f) {
         printf("session %u: its reply waits, %s\n", n, errno == EEXIST ? "an unread one lies there" : "it cannot be written");
         return;
     }
-    bool whole = fwrite(reply, 1, count, f) == count;
+    bool whole = fwrite(reply, 1, used, f) == used;
     s->written = fclose(f) == 0 && whole;
-    if (!s->written) remove(session_file(n, RB_RESPONSE));
+    if (!s->written) remove(session_file(n, RB_FILE_RESPONSE));
     printf("session %u: %s\n", n, s->written ? "its reply is written" : "its reply waits, it cannot be written");
 }
 
@@ -183,18 +183,18 @@ static bool is_gone(const char *path) {
  * stays taken, since a share that is out of reach looks like that. A number that was only held is open again. */
 static void let_go(uint32_t n) {
     struct session *s = &sessions[n];
-    uint8_t reply[RB_REPLY_BYTES];
-    size_t count;
+    uint8_t reply[RB_MAX_REPLY_BYTES];
+    size_t used;
     if (s->held) {
-        must(rb_collect(table, sizeof table, s->program, s->ticket, reply, sizeof reply, &count), "collect");
+        must(rb_table_collect(table, sizeof table, s->program, s->ticket, reply, sizeof reply, &used), "collect");
         memset(s, 0, sizeof *s);
     }
-    if (!s->written || !is_gone(session_file(n, RB_RESPONSE))) return;
-    if (remove(session_file(n, RB_REQUEST))) {
+    if (!s->written || !is_gone(session_file(n, RB_FILE_RESPONSE))) return;
+    if (remove(session_file(n, RB_FILE_REQUEST))) {
         printf("session %u: its number stays taken, its request cannot be removed\n", n);
         return;
     }
-    must(rb_collect(table, sizeof table, s->program, s->ticket, reply, sizeof reply, &count), "collect");
+    must(rb_table_collect(table, sizeof table, s->program, s->ticket, reply, sizeof reply, &used), "collect");
     printf("session %u: program %u has its reply, the number is open again\n", n, s->program);
     memset(s, 0, sizeof *s);
 }
@@ -205,14 +205,15 @@ static void a_round(void) {
     rb_command_number command;
     for (uint32_t n = 0; n < MAX_SESSIONS; n++) let_go(n);
     for (uint32_t n = 0; n < MAX_SESSIONS; n++) place_request(n);
-    while (rb_take_up(table, sizeof table, &number, &ticket, &command) == RB_DONE) serve(number, ticket, command);
+    while (rb_table_take_up(table, sizeof table, &number, &ticket, &command) == RB_DONE) serve(number, ticket, command);
     for (uint32_t n = 0; n < MAX_SESSIONS; n++) write_reply(n);
 }
 
 int main(int argc, char **argv) {
     if (argc != 2 || strlen(argv[1]) > 300) return 2;
     share = argv[1];
-    must(rb_make(table, sizeof table, MAX_SESSIONS), "make");
+    if (!rb_is_this_version()) return 2;
+    must(rb_table_make(table, sizeof table, MAX_SESSIONS), "make");
     while (scanf("%u %u", &date, &time_of_day) == 2) {
         if (rb_is_real_date(date) && rb_is_real_time(time_of_day)) a_round();
         else printf("no round: the clock gives no real date and time\n");

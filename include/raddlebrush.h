@@ -5,8 +5,9 @@
  * (a length of 0 still wants a pointer that is not NULL). What is lent for writing must not overlap anything else lent to that call.
  * No call keeps a pointer, allocates, or uses anything but what it is lent: calls on different memory may run at the same time.
  *
- * A call that can refuse returns RB_DONE, or a refusal: rb_number gives its number, and rb_place_of the place in the job file for the
- * numbers 3 to 6. A refused call changes nothing that it was lent. A call that is done writes what is said below, and nothing else.
+ * A call that begins rb_is_ answers yes or no. A call that can refuse returns RB_DONE, or a refusal, which rb_refusal_number and
+ * rb_refusal_place take apart. A refused call changes nothing that it was lent. A call that is done writes what is said below, and
+ * nothing else.
  */
 #ifndef RADDLEBRUSH_H
 #define RADDLEBRUSH_H
@@ -19,44 +20,80 @@
 extern "C" {
 #endif
 
+/* ---- the version: one more with each change of a name, a type, a number or a size of this header */
+
+#define RB_VERSION 2u
+
+/* The version of the archive. */
+uint32_t rb_version(void);
+
+/* Whether the archive is the one that this header speaks of. */
+static inline bool rb_is_this_version(void) { return rb_version() == RB_VERSION; }
+
 /* ---- refusals */
 
+/* What a call returns: RB_DONE, or the refusal's number in the low 8 bits with its place in the 56 above. */
+typedef uint64_t rb_result;
+
 #define RB_DONE 0u
-#define RB_FILE_TOO_LONG 1u       /* job file over 65,535 bytes */
-#define RB_TOO_FEW_PLACES 2u      /* legal job file with more statements than the lent offset table has places */
-#define RB_NO_TOKEN 3u            /* the next bytes are no token; place: the first of them (a string: its opening quote) */
-#define RB_UNEXPECTED 4u          /* a token, or the end of file, that no legal file has after the tokens before it */
-#define RB_NOT_REAL 5u            /* a time or date that is not a real one */
-#define RB_TOO_MANY_STATEMENTS 6u /* any token after 64 statements */
-#define RB_NOT_A_RECORD 7u        /* record field out of range, or bytes that are not a record */
-#define RB_TOO_LITTLE_ROOM 8u     /* lent output too short for the whole answer */
-#define RB_ALL_TAKEN 9u           /* every session number taken */
-#define RB_NOT_THE_ONE 10u        /* ticket, program or command isn't the one this call may name now */
-#define RB_OUT_OF_RANGE 11u       /* a number, offset or file name out of its range */
-#define RB_NO_TICKET_LEFT 12u     /* last ticket is 4,294,967,295 */
-#define RB_UNSOUND 13u            /* lent session table unsound */
-#define RB_NOTHING_UNANSWERED 14u /* take up: no unanswered command */
 
-/* The number of what a call returned. */
-static inline uint32_t rb_number(uint32_t returned) { return returned % 256u; }
+#define RB_REFUSAL_FILE_TOO_LONG 1u       /* job file over 65,535 bytes */
+#define RB_REFUSAL_TOO_FEW_PLACES 2u      /* legal job file with more statements than the lent offset table has places */
+#define RB_REFUSAL_NO_TOKEN 3u            /* the next bytes are no token; place: the first of them (a string: its opening quote) */
+#define RB_REFUSAL_UNEXPECTED 4u          /* a token, or the end of file, that no legal file has after the tokens before it */
+#define RB_REFUSAL_NOT_REAL 5u            /* a time or date that is not a real one */
+#define RB_REFUSAL_TOO_MANY_STATEMENTS 6u /* any token after 64 statements */
+#define RB_REFUSAL_NOT_A_RECORD 7u        /* record field out of range, or bytes that are not a record */
+#define RB_REFUSAL_TOO_LITTLE_ROOM 8u     /* lent output too short for the whole answer */
+#define RB_REFUSAL_ALL_TAKEN 9u           /* every session number taken */
+#define RB_REFUSAL_NOT_THE_ONE 10u        /* ticket, program or command isn't the one this call may name now */
+#define RB_REFUSAL_OUT_OF_RANGE 11u       /* a number, offset or file name out of its range */
+#define RB_REFUSAL_NO_TICKET_LEFT 12u     /* last ticket is 4,294,967,295 */
+#define RB_REFUSAL_UNSOUND 13u            /* lent session table unsound */
+#define RB_REFUSAL_NOTHING_UNANSWERED 14u /* take up: no unanswered command */
 
-/* The place of what a call returned: a byte of the job file, or its length for the end; 0 where there is none. */
-static inline uint32_t rb_place_of(uint32_t returned) { return returned / 256u; }
+/* The number of a refusal; RB_DONE where there is none. */
+static inline uint32_t rb_refusal_number(rb_result result) { return (uint32_t)(result & 255u); }
 
-/* ---- limits */
+/* The place of a refusal with the numbers 3 to 6: a byte of the job file, or its length for the end; 0 where there is none. */
+static inline size_t rb_refusal_place(rb_result result) { return (size_t)(result >> 8); }
 
-#define RB_FILE_BYTES 65535u  /* the longest job file */
-#define RB_STATEMENTS 64u     /* the most statements of a job file */
-#define RB_COMMANDS 64u       /* the most commands of a session */
-#define RB_SESSIONS 32u       /* the most sessions of a table */
-#define RB_PROGRAMS 8u        /* programs are 1 to 8 */
-#define RB_TEXT_BYTES 255u    /* the longest content of a string */
-#define RB_CLASS_MOST 99u
-#define RB_CODE_MOST 99999999u
-#define RB_NAME_BYTES 12u     /* a session file's name */
-#define RB_RECORD_BYTES 307u  /* the longest record: ERROR, a number of two digits, a text of 255 bytes */
-#define RB_REPLY_BYTES 3319u  /* the longest reply: 64 ERROR records without text */
-#define RB_TABLE_BYTES 33296u /* a session table, for every MaxSessions */
+/* A refusal's number in words, for a log. */
+static inline const char *rb_refusal_text(uint32_t number) {
+    switch (number) {
+    case RB_DONE: return "done";
+    case RB_REFUSAL_FILE_TOO_LONG: return "the job file is too long";
+    case RB_REFUSAL_TOO_FEW_PLACES: return "more statements than places for their offsets";
+    case RB_REFUSAL_NO_TOKEN: return "no token begins here";
+    case RB_REFUSAL_UNEXPECTED: return "this may not stand here";
+    case RB_REFUSAL_NOT_REAL: return "no real date or time";
+    case RB_REFUSAL_TOO_MANY_STATEMENTS: return "too many statements";
+    case RB_REFUSAL_NOT_A_RECORD: return "not a record";
+    case RB_REFUSAL_TOO_LITTLE_ROOM: return "too little room for the answer";
+    case RB_REFUSAL_ALL_TAKEN: return "every session number is taken";
+    case RB_REFUSAL_NOT_THE_ONE: return "not the ticket, program or command that is due";
+    case RB_REFUSAL_OUT_OF_RANGE: return "a number, offset or file name out of range";
+    case RB_REFUSAL_NO_TICKET_LEFT: return "no ticket is left";
+    case RB_REFUSAL_UNSOUND: return "the session table is unsound";
+    case RB_REFUSAL_NOTHING_UNANSWERED: return "no command is unanswered";
+    default: return "unknown refusal";
+    }
+}
+
+/* ---- limits (RB_MAX_) and sizes */
+
+#define RB_MAX_JOB_BYTES 65535u   /* a job file */
+#define RB_MAX_STATEMENTS 64u     /* of a job file */
+#define RB_MAX_COMMANDS 64u       /* of a session */
+#define RB_MAX_SESSIONS 32u       /* of a table: its MaxSessions is 1 to 32 */
+#define RB_MAX_PROGRAM 8u         /* programs are 1 to 8 */
+#define RB_MAX_TEXT_BYTES 255u    /* the content of a string */
+#define RB_MAX_CLASS 99u
+#define RB_MAX_CODE 99999999u
+#define RB_MAX_RECORD_BYTES 307u  /* ERROR, a number of two digits, a text of 255 bytes */
+#define RB_MAX_REPLY_BYTES 3319u  /* 64 ERROR records without text */
+#define RB_FILE_NAME_BYTES 12u    /* a session file's name */
+#define RB_TABLE_BYTES 33296u     /* a session table, for every MaxSessions */
 
 /* ---- three counts kept apart: each is a structure of one number, so that a compiler refuses one where another is due. It is passed as
  * the number is, and where it lies the number lies. */
@@ -68,69 +105,106 @@ typedef struct { uint32_t n; } rb_ticket;         /* from 1 on */
 /* ---- job files */
 
 /* Reads a whole job file, and puts the offset of each statement into offsets and their count into *statements. Places beyond stay.
- * RB_FILE_TOO_LONG; then the leftmost of RB_NO_TOKEN, RB_TOO_MANY_STATEMENTS, RB_NOT_REAL, RB_UNEXPECTED; then RB_TOO_FEW_PLACES. */
-uint32_t rb_read_job(const uint8_t *file, size_t file_bytes, uint32_t *offsets, size_t places, size_t *statements);
+ * RB_REFUSAL_FILE_TOO_LONG; then the leftmost of RB_REFUSAL_NO_TOKEN, RB_REFUSAL_TOO_MANY_STATEMENTS, RB_REFUSAL_NOT_REAL,
+ * RB_REFUSAL_UNEXPECTED; then RB_REFUSAL_TOO_FEW_PLACES. */
+rb_result rb_read_job(const uint8_t *file, size_t file_bytes, uint32_t *offsets, size_t places, size_t *statements);
 
-/* The fields of a statement that is read. A string is the place of its opening quote (rb_text_at gives its length); a name is the
- * place of its first byte, with its length. A field that the statement has not is 0. */
-#define RB_KIND 0           /* RB_JOB .. RB_ABORT */
-#define RB_OFFSET 1         /* the first byte of its keyword */
-#define RB_NEXT 2           /* the place after its ; */
-#define RB_FILE 3           /* string: the file spec (JOB: the response file) */
-#define RB_NAME 4           /* name: of the job (JOB), or of what is ended (ABORT) */
-#define RB_NAME_LENGTH 5
-#define RB_ABORTED 6        /* RB_REPORT or RB_EVENT */
-#define RB_SOURCE 7         /* what is moved (UPLOAD, DOWNLOAD): RB_ACTIVE, RB_SOURCE_FILE or RB_SOURCE_NAME */
-#define RB_SOURCE_PLACE 8   /* string or name */
-#define RB_SOURCE_LENGTH 9  /* of a name */
-#define RB_START 10         /* the start clause: RB_IMMEDIATE, RB_TIME or RB_CONDITION */
-#define RB_START_TIME 11    /* hhmmss */
-#define RB_START_DATE 12    /* yyyymmdd, or 0 for none */
-#define RB_PARAMETER 13     /* name: what a condition looks at */
-#define RB_PARAMETER_LENGTH 14
-#define RB_OPERATOR 15      /* RB_EQUAL .. RB_AT_MOST */
-#define RB_OPERAND 16       /* RB_OPERAND_NUMBER or RB_OPERAND_TEXT */
-#define RB_OPERAND_PLACE 17 /* string */
-#define RB_SCALE 18         /* of a number: how many of its digits stand after the point */
-#define RB_STATEMENT_FIELDS 19
+#define RB_STATEMENT_JOB 1u
+#define RB_STATEMENT_UPLOAD 2u
+#define RB_STATEMENT_DOWNLOAD 3u
+#define RB_STATEMENT_GETINFO 4u
+#define RB_STATEMENT_ABORT 5u
 
-#define RB_JOB 1
-#define RB_UPLOAD 2
-#define RB_DOWNLOAD 3
-#define RB_GETINFO 4
-#define RB_ABORT 5
+#define RB_ABORTED_REPORT 1u
+#define RB_ABORTED_EVENT 2u
 
-#define RB_REPORT 1
-#define RB_EVENT 2
+#define RB_SOURCE_ACTIVE 1u
+#define RB_SOURCE_FILE 2u
+#define RB_SOURCE_NAME 3u
 
-#define RB_ACTIVE 1
-#define RB_SOURCE_FILE 2
-#define RB_SOURCE_NAME 3
+#define RB_START_IMMEDIATE 1u
+#define RB_START_AT_TIME 2u
+#define RB_START_CONDITION 3u
 
-#define RB_IMMEDIATE 1
-#define RB_TIME 2
-#define RB_CONDITION 3
+#define RB_OPERATOR_EQUAL 1u
+#define RB_OPERATOR_NOT_EQUAL 2u
+#define RB_OPERATOR_ABOVE 3u
+#define RB_OPERATOR_BELOW 4u
+#define RB_OPERATOR_AT_LEAST 5u
+#define RB_OPERATOR_AT_MOST 6u
 
-#define RB_EQUAL 1
-#define RB_NOT_EQUAL 2
-#define RB_ABOVE 3
-#define RB_BELOW 4
-#define RB_AT_LEAST 5
-#define RB_AT_MOST 6
+#define RB_OPERAND_NUMBER 1u
+#define RB_OPERAND_STRING 2u
 
-#define RB_OPERAND_NUMBER 1
-#define RB_OPERAND_TEXT 2
+/* A part of the bytes that were read: the place of its first byte, and its length. */
+typedef struct { size_t place, length; } rb_part;
 
-/* Reads the statement that begins at the offset at, up to its ; and nothing beyond. *mantissa receives a condition's number as a signed
- * whole number, its digits without the point (0 where there is none).
- * RB_FILE_TOO_LONG, RB_OUT_OF_RANGE (an offset past the file's length); then the leftmost of RB_NO_TOKEN, RB_NOT_REAL, RB_UNEXPECTED. */
-uint32_t rb_read_statement(const uint8_t *file, size_t file_bytes, size_t at, uint64_t fields[RB_STATEMENT_FIELDS], int64_t *mantissa);
+/* A statement. A string is the place of its opening quote in the file (rb_text_length gives its length), a name is a part of the file.
+ * A member that the statement has not is 0. */
+typedef struct {
+    uint32_t kind;          /* RB_STATEMENT_JOB .. RB_STATEMENT_ABORT */
+    size_t offset;          /* the first byte of its keyword */
+    size_t next;            /* the place after its ; */
+    size_t file_quote;      /* string: the file spec (JOB: the response file) */
+    rb_part name;           /* of the job (JOB), or of what is ended (ABORT) */
+    uint32_t aborted_kind;  /* what is ended (ABORT): RB_ABORTED_REPORT or RB_ABORTED_EVENT */
+    uint32_t source_kind;   /* what is moved (UPLOAD, DOWNLOAD): RB_SOURCE_ACTIVE, RB_SOURCE_FILE or RB_SOURCE_NAME */
+    size_t source_quote;    /* string: of RB_SOURCE_FILE */
+    rb_part source_name;    /* of RB_SOURCE_NAME */
+    uint32_t start_kind;    /* the start clause: RB_START_IMMEDIATE, RB_START_AT_TIME or RB_START_CONDITION */
+    uint32_t start_time;    /* hhmmss */
+    uint32_t start_date;    /* yyyymmdd, or 0 for none */
+    rb_part parameter;      /* what a condition looks at */
+    uint32_t operator_kind; /* RB_OPERATOR_EQUAL .. RB_OPERATOR_AT_MOST */
+    uint32_t operand_kind;  /* RB_OPERAND_NUMBER or RB_OPERAND_STRING */
+    size_t operand_quote;   /* string: of RB_OPERAND_STRING */
+    uint32_t scale;         /* of RB_OPERAND_NUMBER: how many of its digits stand after the point */
+    int64_t mantissa;       /* of RB_OPERAND_NUMBER: its digits without the point, as a signed whole number */
+} rb_statement;
+
+/* The proved call behind rb_read_statement: the members as numbers in their order, a part as its place and its length, and the mantissa
+ * by itself. */
+#define RB_STATEMENT_NUMBERS 20
+rb_result rb_read_statement_numbers(const uint8_t *file, size_t file_bytes, size_t at, uint64_t numbers[RB_STATEMENT_NUMBERS],
+                                    int64_t *mantissa);
+
+/* Reads the statement that begins at the offset at, up to its ; and nothing beyond.
+ * RB_REFUSAL_FILE_TOO_LONG, RB_REFUSAL_OUT_OF_RANGE (an offset past the file's length); then the leftmost of RB_REFUSAL_NO_TOKEN,
+ * RB_REFUSAL_NOT_REAL, RB_REFUSAL_UNEXPECTED. */
+static inline rb_result rb_read_statement(const uint8_t *file, size_t file_bytes, size_t at, rb_statement *statement) {
+    uint64_t numbers[RB_STATEMENT_NUMBERS];
+    int64_t mantissa;
+    rb_result result = rb_read_statement_numbers(file, file_bytes, at, numbers, &mantissa);
+    if (result != RB_DONE) return result;
+    statement->kind = (uint32_t)numbers[0];
+    statement->offset = (size_t)numbers[1];
+    statement->next = (size_t)numbers[2];
+    statement->file_quote = (size_t)numbers[3];
+    statement->name.place = (size_t)numbers[4];
+    statement->name.length = (size_t)numbers[5];
+    statement->aborted_kind = (uint32_t)numbers[6];
+    statement->source_kind = (uint32_t)numbers[7];
+    statement->source_quote = (size_t)numbers[8];
+    statement->source_name.place = (size_t)numbers[9];
+    statement->source_name.length = (size_t)numbers[10];
+    statement->start_kind = (uint32_t)numbers[11];
+    statement->start_time = (uint32_t)numbers[12];
+    statement->start_date = (uint32_t)numbers[13];
+    statement->parameter.place = (size_t)numbers[14];
+    statement->parameter.length = (size_t)numbers[15];
+    statement->operator_kind = (uint32_t)numbers[16];
+    statement->operand_kind = (uint32_t)numbers[17];
+    statement->operand_quote = (size_t)numbers[18];
+    statement->scale = (uint32_t)numbers[19];
+    statement->mantissa = mantissa;
+    return RB_DONE;
+}
 
 /* Whether a whole string begins at the place quote of the file. */
 bool rb_is_text_at(const uint8_t *file, size_t file_bytes, size_t quote);
 
 /* The length of that string's text, which is the bytes after the quote; 0 where no whole string begins there. */
-size_t rb_text_at(const uint8_t *file, size_t file_bytes, size_t quote);
+size_t rb_text_length(const uint8_t *file, size_t file_bytes, size_t quote);
 
 /* ---- dates (yyyymmdd) and times (hhmmss), as whole numbers */
 
@@ -139,66 +213,96 @@ bool rb_is_real_time(uint32_t time);
 
 /* ---- response records */
 
-#define RB_PROCESSED 0u
-#define RB_ERROR 1u
+#define RB_OUTCOME_PROCESSED 0u
+#define RB_OUTCOME_ERROR 1u
 
-/* Writes a record at the start of out, and its length into *count. The class and code of RB_PROCESSED are not looked at; an outcome
- * that is neither is out of range.
- * RB_NOT_A_RECORD (number, outcome, class, code, text), RB_NOT_REAL (date, time), RB_TOO_LITTLE_ROOM. */
-uint32_t rb_write_record(rb_command_number number, uint32_t outcome, uint32_t error_class, uint32_t code, const uint8_t *text,
-                         size_t text_bytes, uint32_t date, uint32_t time, uint8_t *out, size_t room, size_t *count);
+/* Writes a record at the start of out, and its length into *used. The class and code of RB_OUTCOME_PROCESSED are not looked at; an
+ * outcome that is neither is out of range.
+ * RB_REFUSAL_NOT_A_RECORD (number, outcome, class, code, text), RB_REFUSAL_NOT_REAL (date, time), RB_REFUSAL_TOO_LITTLE_ROOM. */
+rb_result rb_write_record(rb_command_number number, uint32_t outcome, uint32_t error_class, uint32_t code, const uint8_t *text,
+                          size_t text_bytes, uint32_t date, uint32_t time, uint8_t *out, size_t room, size_t *used);
 
-/* The fields of a record that is read. Its text is RB_RECORD_TEXT_LENGTH bytes of the input from RB_RECORD_TEXT on. */
-#define RB_RECORD_NUMBER 0
-#define RB_RECORD_OUTCOME 1 /* RB_PROCESSED or RB_ERROR */
-#define RB_RECORD_CLASS 2   /* 0 for RB_PROCESSED */
-#define RB_RECORD_CODE 3    /* 0 for RB_PROCESSED */
-#define RB_RECORD_TEXT 4
-#define RB_RECORD_TEXT_LENGTH 5
-#define RB_RECORD_DATE 6
-#define RB_RECORD_TIME 7
-#define RB_RECORD_FIELDS 8
+/* A record. */
+typedef struct {
+    rb_command_number number;
+    uint32_t outcome;     /* RB_OUTCOME_PROCESSED or RB_OUTCOME_ERROR */
+    uint32_t error_class; /* 0 for RB_OUTCOME_PROCESSED */
+    uint32_t code;        /* 0 for RB_OUTCOME_PROCESSED */
+    rb_part text;         /* of the bytes that were read */
+    uint32_t date;
+    uint32_t time;
+} rb_record;
 
-/* Reads bytes as one whole record and nothing beyond. RB_NOT_A_RECORD. */
-uint32_t rb_read_record(const uint8_t *bytes, size_t count, uint64_t fields[RB_RECORD_FIELDS]);
+/* The proved call behind rb_read_record: the members as numbers in their order, the text as its place and its length. */
+#define RB_RECORD_NUMBERS 8
+rb_result rb_read_record_numbers(const uint8_t *bytes, size_t length, uint64_t numbers[RB_RECORD_NUMBERS]);
+
+/* Reads bytes as one whole record and nothing beyond. RB_REFUSAL_NOT_A_RECORD. */
+static inline rb_result rb_read_record(const uint8_t *bytes, size_t length, rb_record *record) {
+    uint64_t numbers[RB_RECORD_NUMBERS];
+    rb_result result = rb_read_record_numbers(bytes, length, numbers);
+    if (result != RB_DONE) return result;
+    record->number.n = (uint32_t)numbers[0];
+    record->outcome = (uint32_t)numbers[1];
+    record->error_class = (uint32_t)numbers[2];
+    record->code = (uint32_t)numbers[3];
+    record->text.place = (size_t)numbers[4];
+    record->text.length = (size_t)numbers[5];
+    record->date = (uint32_t)numbers[6];
+    record->time = (uint32_t)numbers[7];
+    return RB_DONE;
+}
 
 /* ---- names of session files */
 
-#define RB_REQUEST 0u
-#define RB_RESPONSE 1u
+#define RB_FILE_REQUEST 0u
+#define RB_FILE_RESPONSE 1u
 
-/* Reads a file name of a table with that MaxSessions. RB_OUT_OF_RANGE. */
-uint32_t rb_read_name(const uint8_t *name, size_t name_bytes, uint32_t max, rb_session_number *number, uint32_t *kind);
+/* Reads a file name of a table with that MaxSessions: the session's number, and RB_FILE_REQUEST or RB_FILE_RESPONSE.
+ * RB_REFUSAL_OUT_OF_RANGE. */
+rb_result rb_read_file_name(const uint8_t *name, size_t name_bytes, uint32_t max, rb_session_number *number, uint32_t *kind);
 
-/* Writes a file name of RB_NAME_BYTES at the start of out. RB_OUT_OF_RANGE (MaxSessions, number, kind), RB_TOO_LITTLE_ROOM. */
-uint32_t rb_write_name(rb_session_number number, uint32_t kind, uint32_t max, uint8_t *out, size_t room, size_t *count);
+/* Writes a file name at the start of out, and its length, RB_FILE_NAME_BYTES, into *used.
+ * RB_REFUSAL_OUT_OF_RANGE (MaxSessions, number, kind), RB_REFUSAL_TOO_LITTLE_ROOM. */
+rb_result rb_write_file_name(rb_session_number number, uint32_t kind, uint32_t max, uint8_t *out, size_t room, size_t *used);
 
 /* ---- the session table, in RB_TABLE_BYTES lent bytes. A ticket names one placing for ever; a session's number is used again once its
  * reply is collected. */
 
-/* Makes a fresh table for MaxSessions 1 to 32, whatever the bytes were. RB_OUT_OF_RANGE, RB_UNSOUND (not a table's size). */
-uint32_t rb_make(uint8_t *table, size_t table_bytes, uint32_t max);
+/* Makes a fresh table for MaxSessions 1 to 32, whatever the bytes were. RB_REFUSAL_OUT_OF_RANGE, RB_REFUSAL_UNSOUND (not a table's
+ * size). */
+rb_result rb_table_make(uint8_t *table, size_t table_bytes, uint32_t max);
 
 /* Places a session of a program (1 to 8) with that many commands (1 to 64).
- * RB_UNSOUND, RB_OUT_OF_RANGE, RB_ALL_TAKEN, RB_NO_TICKET_LEFT. */
-uint32_t rb_place(uint8_t *table, size_t table_bytes, uint32_t program, uint32_t count, rb_session_number *number, rb_ticket *ticket);
+ * RB_REFUSAL_UNSOUND, RB_REFUSAL_OUT_OF_RANGE, RB_REFUSAL_ALL_TAKEN, RB_REFUSAL_NO_TICKET_LEFT. */
+rb_result rb_table_place(uint8_t *table, size_t table_bytes, uint32_t program, uint32_t commands, rb_session_number *number,
+                         rb_ticket *ticket);
 
-/* Takes up the next command, or gives the one in hand again. RB_UNSOUND, RB_NOTHING_UNANSWERED. */
-uint32_t rb_take_up(uint8_t *table, size_t table_bytes, rb_session_number *number, rb_ticket *ticket, rb_command_number *command);
+/* Takes up the next command, or gives the one in hand again. RB_REFUSAL_UNSOUND, RB_REFUSAL_NOTHING_UNANSWERED. */
+rb_result rb_table_take_up(uint8_t *table, size_t table_bytes, rb_session_number *number, rb_ticket *ticket, rb_command_number *command);
 
-/* Answers the command in hand. The class and code of RB_PROCESSED are not looked at; an outcome that is neither is out of range.
- * RB_UNSOUND, RB_NOT_THE_ONE, RB_NOT_REAL, RB_NOT_A_RECORD. */
-uint32_t rb_answer(uint8_t *table, size_t table_bytes, rb_ticket ticket, rb_command_number command, uint32_t outcome, uint32_t error_class,
-                   uint32_t code, uint32_t date, uint32_t time);
+/* Answers the command in hand. The class and code of RB_OUTCOME_PROCESSED are not looked at; an outcome that is neither is out of range.
+ * RB_REFUSAL_UNSOUND, RB_REFUSAL_NOT_THE_ONE, RB_REFUSAL_NOT_REAL, RB_REFUSAL_NOT_A_RECORD. */
+rb_result rb_table_answer(uint8_t *table, size_t table_bytes, rb_ticket ticket, rb_command_number command, uint32_t outcome,
+                          uint32_t error_class, uint32_t code, uint32_t date, uint32_t time);
 
-/* Writes the reply of a closed session, its records in order without text, at the start of out, and its length into *count. Its number
- * is open again. RB_UNSOUND, RB_OUT_OF_RANGE (program), RB_NOT_THE_ONE, RB_TOO_LITTLE_ROOM. */
-uint32_t rb_collect(uint8_t *table, size_t table_bytes, uint32_t program, rb_ticket ticket, uint8_t *out, size_t room, size_t *count);
+/* Writes the reply of a closed session, its records in order without text, at the start of out, and its length into *used. Its number
+ * is open again. RB_REFUSAL_UNSOUND, RB_REFUSAL_OUT_OF_RANGE (program), RB_REFUSAL_NOT_THE_ONE, RB_REFUSAL_TOO_LITTLE_ROOM. */
+rb_result rb_table_collect(uint8_t *table, size_t table_bytes, uint32_t program, rb_ticket ticket, uint8_t *out, size_t room,
+                           size_t *used);
 
-/* A table's bytes, for who must look into one: rows of four numbers, each of four bytes, low byte first. Row 0: MaxSessions, the last
- * ticket, the number last taken up, and what is in hand (0, or one more than the session's number). Then for each session 65 rows. Its
- * head: program (0 where the number is open), command count, answers so far, ticket. A row for each command: 0 for PROCESSED or one more
- * than the class, the code, date, time. */
+/* Whether any bytes are a sound table: those that the calls above, rb_table_make apart, do not refuse with RB_REFUSAL_UNSOUND. */
+bool rb_is_sound(const uint8_t *table, size_t table_bytes);
+
+/* A table's bytes, for who must look into one.
+ * Rows of four numbers, each of four bytes, low byte first.
+ * Row 0: MaxSessions, the last ticket, the number last taken up, and what is in hand (0, or one more than the session's number).
+ * In a fresh table nothing is taken up, and the number last taken up is MaxSessions - 1, so that 0 comes first.
+ * Then for each session 65 rows: its head, and a row for each command.
+ * The head: program (0 where the number is open), command count, answers so far, ticket.
+ * The row of an answered command: 0 for PROCESSED or one more than the class, the code, date, time.
+ * The code of a PROCESSED says nothing, whatever number stands there; rb_table_answer puts 0 there.
+ * The rest of a slot whose number is open says nothing, and neither does the row of a command that is not answered. */
 
 #ifdef __cplusplus
 }

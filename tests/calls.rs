@@ -43,15 +43,15 @@ fn span(s: Span) -> [u64; 2] {
     [s.start as u64, s.length as u64]
 }
 
-fn source_numbers(source: Source) -> [u64; 3] {
+fn source_numbers(source: Source) -> [u64; 4] {
     match source {
-        Source::Active => [1, 0, 0],
-        Source::File(quote) => [2, quote as u64, 0],
-        Source::Name(name) => [3, span(name)[0], span(name)[1]],
+        Source::Active => [1, 0, 0, 0],
+        Source::File(quote) => [2, quote as u64, 0, 0],
+        Source::Name(name) => [3, 0, span(name)[0], span(name)[1]],
     }
 }
 
-/// The clause's fields from RB_START on, and the mantissa.
+/// The clause's members from start_kind on.
 fn start_numbers(start: Start) -> [u64; 10] {
     match start {
         Start::Immediate => [1, 0, 0, 0, 0, 0, 0, 0, 0, 0],
@@ -66,8 +66,8 @@ fn start_numbers(start: Start) -> [u64; 10] {
     }
 }
 
-/// The fields in the header's order, and the mantissa.
-fn statement_numbers(s: &Statement) -> [u64; 20] {
+/// The members in the header's order.
+fn statement_numbers(s: &Statement) -> [u64; 21] {
     let (kind, file, name, aborted, rest) = match s.body {
         Body::Job { name, response } => (1, response, span(name), 0, None),
         Body::Upload { file, source, start } => (2, file, [0, 0], 0, Some((source, start))),
@@ -76,18 +76,18 @@ fn statement_numbers(s: &Statement) -> [u64; 20] {
         Body::AbortReport { name } => (5, 0, span(name), 1, None),
         Body::AbortEvent { name } => (5, 0, span(name), 2, None),
     };
-    let source = rest.map_or([0; 3], |(source, _)| source_numbers(source));
+    let source = rest.map_or([0; 4], |(source, _)| source_numbers(source));
     let start = rest.map_or([0; 10], |(_, start)| start_numbers(start));
-    let mut fields = [0; 20];
-    fields[..7].copy_from_slice(&[kind, s.offset as u64, s.next as u64, file as u64, name[0], name[1], aborted]);
-    fields[7..10].copy_from_slice(&source);
-    fields[10..].copy_from_slice(&start);
-    fields
+    let mut members = [0; 21];
+    members[..7].copy_from_slice(&[kind, s.offset as u64, s.next as u64, file as u64, name[0], name[1], aborted]);
+    members[7..11].copy_from_slice(&source);
+    members[11..].copy_from_slice(&start);
+    members
 }
 
 pub fn expect_statement(l: &mut Library, file: &[u8], at: usize) {
     let answer = job::read_statement(file, at);
-    l.expect(Message::call(b'S').lent(file).number(at as u64), given(&answer, statement_numbers));
+    l.expect(Message::call(b'S').lent(file).number(at as u64), given(&answer, statement_numbers).twice());
 }
 
 pub fn expect_text(l: &mut Library, file: &[u8], quote: usize) {
@@ -137,7 +137,7 @@ pub fn expect_record_read(l: &mut Library, bytes: &[u8]) {
         let [outcome, class, code] = outcome_numbers(r.outcome);
         [r.number as u64, outcome, class, code, *text as u64, r.text.len() as u64, r.date as u64, r.time as u64]
     });
-    l.expect(Message::call(b'R').lent(bytes), answer);
+    l.expect(Message::call(b'R').lent(bytes), answer.twice());
 }
 
 fn kind_number(kind: Kind) -> u64 {

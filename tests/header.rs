@@ -1,5 +1,6 @@
 //! Holds include/raddlebrush.h against the Rattle source: each exported call with the names, the number and the widths of its parameters,
-//! the three counts each with its type, and each constant. Run in the repository's root.
+//! the three counts each with its type, each constant, and that each structure has a member for each number that its call writes, in the
+//! numbers' order. Run in the repository's root.
 
 use std::collections::BTreeMap;
 use std::fs;
@@ -18,7 +19,7 @@ fn squeezed(text: &str) -> String {
     text.split_whitespace().collect::<Vec<_>>().join(" ")
 }
 
-/// The structures of the header, and what each holds one of.
+/// The counts of the header, and what each is a structure of.
 const COUNTS: [&str; 3] = ["rb_session_number", "rb_command_number", "rb_ticket"];
 const COUNT: &str = "uint32_t";
 
@@ -47,6 +48,11 @@ fn parameter_type<'a>(call: &str, name: &str, t: &'a str) -> &'a str {
     };
     assert_eq!(number, COUNT, "{call}: {name}");
     count
+}
+
+/// The header's type of what is returned: a number of 64 bits is a refusal, or none.
+fn returned_type(t: &str) -> &str {
+    if t == "u64" { "rb_result" } else { number_type(t) }
 }
 
 /// The C parameters of one of Rattle's: a slice is a pointer and a length.
@@ -78,7 +84,7 @@ fn rattle_calls(text: &str) -> Calls {
             parameters(name, parameter, t)
         });
         let returned = rest.trim_start().strip_prefix("-> ").expect("every call returns a number").split_whitespace().next().unwrap();
-        calls.insert(name.to_string(), (taken.collect(), number_type(returned).to_string()));
+        calls.insert(name.to_string(), (taken.collect(), returned_type(returned).to_string()));
     }
     calls
 }
@@ -107,6 +113,23 @@ fn without_comments(text: &str) -> String {
     out + rest
 }
 
+/// The header without its inline functions, and these by their names.
+fn without_inlines(text: &str) -> (String, BTreeMap<String, String>) {
+    let mut out = String::new();
+    let mut inlines = BTreeMap::new();
+    let mut rest = text;
+    while let Some((before, after)) = rest.split_once("static inline ") {
+        out.push_str(before);
+        let line = after.split_once('\n').unwrap().0;
+        let whole = if line.ends_with('}') { line } else { after.split_once("\n}").unwrap().0 };
+        let name = whole.split_once('(').unwrap().0.rsplit([' ', '*']).next().unwrap();
+        inlines.insert(name.to_string(), whole.to_string());
+        rest = &after[whole.len()..];
+        rest = rest.strip_prefix("\n}").unwrap_or(rest);
+    }
+    (out + rest, inlines)
+}
+
 fn header_constants(text: &str) -> BTreeMap<String, u64> {
     text.lines()
         .filter_map(|l| {
@@ -114,6 +137,49 @@ fn header_constants(text: &str) -> BTreeMap<String, u64> {
             Some((name.to_string(), value.trim().trim_end_matches('u').parse().expect("a number")))
         })
         .collect()
+}
+
+/// The name in the source of a constant of the header: a refusal has none before it there, and some limits are named otherwise.
+fn source_name(header: &str) -> &str {
+    match header {
+        "MAX_JOB_BYTES" => "FILE_BYTES",
+        "MAX_STATEMENTS" => "STATEMENTS",
+        "MAX_COMMANDS" => "COMMANDS",
+        "MAX_SESSIONS" => "SESSIONS",
+        "MAX_PROGRAM" => "PROGRAMS",
+        "MAX_TEXT_BYTES" => "TEXT_BYTES",
+        "MAX_CLASS" => "CLASS_MOST",
+        "MAX_CODE" => "CODE_MOST",
+        "FILE_NAME_BYTES" => "NAME_BYTES",
+        other => other.strip_prefix("REFUSAL_").unwrap_or(other),
+    }
+}
+
+/// The members of a structure in their order, a part as its two.
+fn members(header: &str, structure: &str) -> Vec<String> {
+    let body = header.split_once(&format!("}} {structure};")).unwrap().0.rsplit_once("typedef struct {").unwrap().1;
+    let each = body.split(';').map(squeezed).filter(|m| !m.is_empty());
+    each.flat_map(|m| {
+        let (t, name) = m.split_once(' ').unwrap();
+        match t {
+            "rb_part" => vec![format!("{name}.place"), format!("{name}.length")],
+            "rb_command_number" => vec![format!("{name}.n")],
+            _ => vec![name.to_string()],
+        }
+    })
+    .collect()
+}
+
+/// The members that an inline function fills from the numbers, in the numbers' order.
+fn filled(inline: &str) -> Vec<String> {
+    let mut by_number: Vec<(usize, String)> = Vec::new();
+    for item in inline.split(';') {
+        let Some((before, after)) = item.split_once(" = (") else { continue };
+        let Some((_, number)) = after.split_once(")numbers[") else { continue };
+        by_number.push((number.trim_end_matches(']').parse().unwrap(), before.split_once("->").unwrap().1.to_string()));
+    }
+    assert!(by_number.iter().map(|(n, _)| *n).eq(0..by_number.len()), "each number is taken once, in their order");
+    by_number.into_iter().map(|(_, member)| member).collect()
 }
 
 /// A parameter with the name left out where it is a length, a constant put in, and C's word for a class.
@@ -126,7 +192,7 @@ fn header_parameter(p: &str, constants: &BTreeMap<String, u64>) -> String {
 }
 
 fn header_calls(text: &str, constants: &BTreeMap<String, u64>) -> Calls {
-    let lines: Vec<&str> = text.lines().filter(|l| !l.starts_with('#') && !l.starts_with("static inline")).collect();
+    let lines: Vec<&str> = text.lines().filter(|l| !l.starts_with('#')).collect();
     let mut calls = Calls::new();
     for item in lines.join("\n").split(';') {
         let Some((before, rest)) = item.split_once('(') else { continue };
@@ -134,47 +200,50 @@ fn header_calls(text: &str, constants: &BTreeMap<String, u64>) -> Calls {
         let Some((returned, name)) = words.rsplit_once(' ') else { continue };
         let inner = rest.rsplit_once(')').unwrap().0;
         let returned = returned.rsplit(' ').next().unwrap().to_string();
-        calls.insert(name.to_string(), (inner.split(',').map(|p| header_parameter(p, constants)).collect(), returned));
+        calls.insert(name.to_string(), (inner.split(',').filter(|p| *p != "void").map(|p| header_parameter(p, constants)).collect(), returned));
     }
     calls
 }
 
-/// The fields of a statement and of a record, in the order in which the calls write them and calls.rs expects them.
-const STATEMENT: &str = "KIND OFFSET NEXT FILE NAME NAME_LENGTH ABORTED SOURCE SOURCE_PLACE SOURCE_LENGTH START START_TIME START_DATE PARAMETER \
-    PARAMETER_LENGTH OPERATOR OPERAND OPERAND_PLACE SCALE STATEMENT_FIELDS";
-const RECORD: &str = "RECORD_NUMBER RECORD_OUTCOME RECORD_CLASS RECORD_CODE RECORD_TEXT RECORD_TEXT_LENGTH RECORD_DATE RECORD_TIME RECORD_FIELDS";
-
 /// Constants that follow from others.
 fn derived(c: &BTreeMap<String, u64>) -> Vec<(&'static str, u64)> {
     let limit = |name: &str| c[name];
-    let fields = [STATEMENT, RECORD].into_iter().flat_map(|names| names.split_whitespace().zip(0..));
     let reply: u64 = (1..=limit("COMMANDS")).map(|n| 50 + n.to_string().len() as u64).sum();
-    let mut all = vec![
-        ("RECORD_BYTES", 50 + limit("COMMANDS").to_string().len() as u64 + limit("TEXT_BYTES")),
-        ("REPLY_BYTES", reply),
+    vec![
+        ("MAX_RECORD_BYTES", 50 + limit("COMMANDS").to_string().len() as u64 + limit("TEXT_BYTES")),
+        ("MAX_REPLY_BYTES", reply),
         ("TABLE_BYTES", 16 * (1 + limit("SESSIONS") * (1 + limit("COMMANDS")))),
         ("DONE", 0),
-    ];
-    all.extend(fields);
-    all
+    ]
 }
 
 fn main() {
-    let header = without_comments(&fs::read_to_string("include/raddlebrush.h").unwrap());
+    let (header, inlines) = without_inlines(&without_comments(&fs::read_to_string("include/raddlebrush.h").unwrap()));
     let rattle = source("raddlebrush");
-    let mut known = rattle_constants(&(source("counts") + &source("session_name") + &rattle));
+    let mut known = rattle_constants(&(source("counts") + &source("session_name") + &source("c_numbers") + &rattle));
     known.extend(derived(&known).into_iter().map(|(name, value)| (name.to_string(), value)));
     let constants = header_constants(&header);
     let mut faults = 0;
     for (name, value) in &constants {
-        if known.get(name) != Some(value) {
-            println!("RB_{name} is {value} in the header, and {:?} in the source", known.get(name));
+        let source = known.get(source_name(name));
+        if source != Some(value) {
+            println!("RB_{name} is {value} in the header, and {source:?} in the source");
             faults += 1;
         }
     }
     for name in COUNTS {
         if !header.contains(&format!("typedef struct {{ {COUNT} n; }} {name};")) {
             println!("{name} is not a structure of one {COUNT}");
+            faults += 1;
+        }
+    }
+    for (structure, inline, count) in
+        [("rb_statement", "rb_read_statement", "STATEMENT_NUMBERS"), ("rb_record", "rb_read_record", "RECORD_NUMBERS")]
+    {
+        let (has, takes) = (members(&header, structure), filled(&inlines[inline]));
+        let numbers: Vec<_> = has.into_iter().filter(|m| m != "mantissa").collect();
+        if numbers != takes || takes.len() as u64 != constants[count] {
+            println!("{structure}\n  members {numbers:?}\n  filled  {takes:?}");
             faults += 1;
         }
     }

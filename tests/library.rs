@@ -30,12 +30,18 @@ impl Message {
         self
     }
 
+    /// For a call that is asked by its numbers, and by the header's structure of them.
+    pub fn twice(self) -> Message {
+        let once = self.0.clone();
+        self.bytes(&once)
+    }
+
     pub fn lent(self, bytes: &[u8]) -> Message {
         self.number(bytes.len() as u64).bytes(bytes)
     }
 }
 
-/// What a call returns: 0, or the refusal's number with its place above the low byte.
+/// What a call returns: 0, or the refusal's number in the low 8 bits with its place in the 56 above.
 pub fn returned<T>(answer: &Result<T, Refusal>) -> u64 {
     match answer {
         Ok(_) => 0,

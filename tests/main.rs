@@ -13,7 +13,7 @@ use library::Library;
 use random::Random;
 
 /// The numbers that each call must have returned in a run, so that no refusal goes untried.
-const RETURNS: [(char, &[u64]); 13] = [
+const RETURNS: [(char, &[u64]); 14] = [
     ('J', &[0, 1, 2, 3, 4, 5, 6]),
     ('S', &[0, 1, 3, 4, 5, 11]),
     ('T', &[0, 1]),
@@ -27,6 +27,7 @@ const RETURNS: [(char, &[u64]); 13] = [
     ('u', &[0, 13, 14]),
     ('a', &[0, 5, 7, 10, 13]),
     ('c', &[0, 8, 10, 11, 13]),
+    ('i', &[0, 1]),
 ];
 
 fn main() {
@@ -57,16 +58,17 @@ fn name(call: char) -> &'static str {
     match call {
         'J' => "rb_read_job",
         'S' => "rb_read_statement",
-        'T' => "rb_text_at",
+        'T' => "rb_is_text_at",
         'D' => "rb_is_real_date",
         'W' => "rb_write_record",
         'R' => "rb_read_record",
-        'N' => "rb_read_name",
-        'O' => "rb_write_name",
-        'm' => "rb_make",
-        'p' => "rb_place",
-        'u' => "rb_take_up",
-        'a' => "rb_answer",
-        _ => "rb_collect",
+        'N' => "rb_read_file_name",
+        'O' => "rb_write_file_name",
+        'm' => "rb_table_make",
+        'p' => "rb_table_place",
+        'u' => "rb_table_take_up",
+        'a' => "rb_table_answer",
+        'c' => "rb_table_collect",
+        _ => "rb_is_sound",
     }
 }

@@ -132,26 +132,27 @@ static void changes_out(void) {
 
 static void table_call(int call) {
     uint8_t *t = table.all + 32;
-    size_t n = table.bytes, written = 77;
+    size_t n = table.bytes, used = 77;
     rb_session_number number = {77};
     rb_ticket ticket = {77};
     rb_command_number command = {77};
     uint64_t a[8];
-    int arguments = call == 'm' ? 1 : call == 'p' ? 2 : call == 'u' ? 0 : call == 'a' ? 7 : 3;
+    int arguments = call == 'm' ? 1 : call == 'p' ? 2 : call == 'a' ? 7 : call == 'c' ? 3 : 0;
     for (int i = 0; i < arguments; i++) a[i] = number_in();
 #define A(i) (uint32_t)a[i]
 #define TICKET(i) (rb_ticket){A(i)}
 #define COMMAND(i) (rb_command_number){A(i)}
 #define SESSION(i) (rb_session_number){A(i)}
-    if (call == 'm') number_out(rb_make(t, n, A(0)));
-    if (call == 'p') number_out(rb_place(t, n, A(0), A(1), &number, &ticket));
-    if (call == 'u') number_out(rb_take_up(t, n, &number, &ticket, &command));
-    if (call == 'a') number_out(rb_answer(t, n, TICKET(0), COMMAND(1), A(2), A(3), A(4), A(5), A(6)));
+    if (call == 'm') number_out(rb_table_make(t, n, A(0)));
+    if (call == 'p') number_out(rb_table_place(t, n, A(0), A(1), &number, &ticket));
+    if (call == 'u') number_out(rb_table_take_up(t, n, &number, &ticket, &command));
+    if (call == 'a') number_out(rb_table_answer(t, n, TICKET(0), COMMAND(1), A(2), A(3), A(4), A(5), A(6)));
+    if (call == 'i') number_out(rb_is_sound(t, n));
     if (call == 'c') {
         uint8_t *room = lend(&first, (size_t)a[2]);
         memset(room, 0x5A, first.bytes);
-        number_out(rb_collect(t, n, A(0), TICKET(1), room, first.bytes, &written));
-        number_out(written);
+        number_out(rb_table_collect(t, n, A(0), TICKET(1), room, first.bytes, &used));
+        number_out(used);
         lent_out(&first);
     }
     if (call == 'p' || call == 'u') {
@@ -161,6 +162,23 @@ static void table_call(int call) {
     if (call == 'u') number_out(command.n);
     changes_out();
 }
+
+static void numbers_before(uint64_t *numbers, int n) {
+    for (int i = 0; i < n; i++) numbers[i] = 77;
+}
+
+static void numbers_out(const uint64_t *numbers, int n) {
+    for (int i = 0; i < n; i++) number_out(numbers[i]);
+}
+
+/* The members of a statement and of a record, in the order in which tests/calls.rs has their numbers. */
+#define STATEMENT(X) \
+    X(kind) X(offset) X(next) X(file_quote) X(name.place) X(name.length) X(aborted_kind) X(source_kind) X(source_quote) \
+    X(source_name.place) X(source_name.length) X(start_kind) X(start_time) X(start_date) X(parameter.place) X(parameter.length) \
+    X(operator_kind) X(operand_kind) X(operand_quote) X(scale) X(mantissa)
+#define RECORD(X) X(number.n) X(outcome) X(error_class) X(code) X(text.place) X(text.length) X(date) X(time)
+#define BEFORE(member) s.member = 77;
+#define MEMBER_OUT(member) number_out((uint64_t)s.member);
 
 static void file_call(int call) {
     uint8_t *file = lend_in(&first);
@@ -174,28 +192,37 @@ static void file_call(int call) {
         lent_out(&second);
     }
     if (call == 'S') {
-        uint64_t fields[RB_STATEMENT_FIELDS];
-        int64_t mantissa = 77;
-        for (int i = 0; i < RB_STATEMENT_FIELDS; i++) fields[i] = 77;
-        number_out(rb_read_statement(file, n, (size_t)number_in(), fields, &mantissa));
-        for (int i = 0; i < RB_STATEMENT_FIELDS; i++) number_out(fields[i]);
-        number_out((uint64_t)mantissa);
+        size_t at = (size_t)number_in();
+        uint64_t numbers[RB_STATEMENT_NUMBERS];
+        rb_statement s;
+        s.mantissa = 77;
+        numbers_before(numbers, RB_STATEMENT_NUMBERS);
+        number_out(rb_read_statement_numbers(file, n, at, numbers, &s.mantissa));
+        numbers_out(numbers, RB_STATEMENT_NUMBERS);
+        number_out((uint64_t)s.mantissa);
+        STATEMENT(BEFORE);
+        number_out(rb_read_statement(file, n, at, &s));
+        STATEMENT(MEMBER_OUT);
     }
     if (call == 'T') {
         size_t quote = (size_t)number_in();
         number_out(rb_is_text_at(file, n, quote));
-        number_out(rb_text_at(file, n, quote));
+        number_out(rb_text_length(file, n, quote));
     }
     if (call == 'R') {
-        uint64_t fields[RB_RECORD_FIELDS];
-        for (int i = 0; i < RB_RECORD_FIELDS; i++) fields[i] = 77;
-        number_out(rb_read_record(file, n, fields));
-        for (int i = 0; i < RB_RECORD_FIELDS; i++) number_out(fields[i]);
+        uint64_t numbers[RB_RECORD_NUMBERS];
+        rb_record s;
+        numbers_before(numbers, RB_RECORD_NUMBERS);
+        number_out(rb_read_record_numbers(file, n, numbers));
+        numbers_out(numbers, RB_RECORD_NUMBERS);
+        RECORD(BEFORE);
+        number_out(rb_read_record(file, n, &s));
+        RECORD(MEMBER_OUT);
     }
     if (call == 'N') {
         rb_session_number number = {77};
         uint32_t kind = 77;
-        number_out(rb_read_name(file, n, U32, &number, &kind));
+        number_out(rb_read_file_name(file, n, U32, &number, &kind));
         number_out(number.n);
         number_out(kind);
     }
@@ -203,10 +230,10 @@ static void file_call(int call) {
         uint64_t a[7];
         for (int i = 0; i < 7; i++) a[i] = number_in();
         uint8_t *room = lend(&second, (size_t)a[6]);
-        size_t written = 77;
+        size_t used = 77;
         memset(room, 0x5A, second.bytes);
-        number_out(rb_write_record(COMMAND(0), A(1), A(2), A(3), file, n, A(4), A(5), room, second.bytes, &written));
-        number_out(written);
+        number_out(rb_write_record(COMMAND(0), A(1), A(2), A(3), file, n, A(4), A(5), room, second.bytes, &used));
+        number_out(used);
         lent_out(&second);
     }
     see_edges(&first);
@@ -216,16 +243,16 @@ static void name_written(void) {
     uint64_t a[4];
     for (int i = 0; i < 4; i++) a[i] = number_in();
     uint8_t *room = lend(&first, (size_t)a[3]);
-    size_t written = 77;
+    size_t used = 77;
     memset(room, 0x5A, first.bytes);
-    number_out(rb_write_name(SESSION(0), A(1), A(2), room, first.bytes, &written));
-    number_out(written);
+    number_out(rb_write_file_name(SESSION(0), A(1), A(2), room, first.bytes, &used));
+    number_out(used);
     lent_out(&first);
 }
 
 static void answered(int call) {
     switch (call) {
-    case 'm': case 'p': case 'u': case 'a': case 'c': table_call(call); break;
+    case 'm': case 'p': case 'u': case 'a': case 'c': case 'i': table_call(call); break;
     case 'O': name_written(); break;
     case 'D': {
         uint32_t n = U32;

@@ -45,6 +45,10 @@ impl Lent<'_> {
         self.expect(Message::call(b'm').number(max as u64), |b| Message::default().number(returned(&table::make(b, max))));
     }
 
+    fn is_sound(&mut self) {
+        self.expect(Message::call(b'i'), |b| Message::default().number(Table::of_bytes(b).is_some() as u64));
+    }
+
     fn place(&mut self, program: u32, count: u32) {
         let mut ticket = None;
         self.expect(Message::call(b'p').numbers(&[program as u64, count as u64]), |b| {
@@ -194,6 +198,7 @@ fn damaged_calls(r: &mut Random, lent: &mut Lent) {
         bytes.extend([0; 4]);
     }
     lent.lend(bytes);
+    lent.is_sound();
     for _ in 0..5 {
         any_call(r, lent);
     }

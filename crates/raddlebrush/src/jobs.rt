@@ -1,61 +1,32 @@
 // Job files.
-use crate::fields::mantissa_of;
-use crate::fields::statement_numbers;
-use crate::refusal;
-use job::JobAnswer;
-use job::StatementAnswer;
+use c_answers::jobs::give_job;
+use c_answers::jobs::give_statement;
 ghost use mathlib.Core.Path.{_≡_};
 ghost use lib.ListN.{length};
 ghost use Rattle.counts.specs.Result.{counted};
 ghost use Rattle.token.specs.Token.{isTextAt};
-ghost use Rattle.job.specs.Job.{readJob, filled, jobSays};
-ghost use Rattle.job.specs.Statement.{readStatement, statementSays, textAt};
-ghost use Rattle.raddlebrush.specs.Returned.{GivesCount, GivesStatement};
-
-fn give_job(a: JobAnswer, statements: &mut usize) -> u32
-    ensures { λ r. ⌜ GivesCount (jobSays a) r (now (statements .entry)) (now (statements .exit)) ⌝ }
-{
-    match a {
-        JobAnswer::Taken(n) => {
-            *statements = n;
-            0
-        }
-        JobAnswer::Refused(f) => refusal(f),
-    }
-}
+ghost use Rattle.job.specs.Job.{readJob, filled};
+ghost use Rattle.job.specs.Statement.{readStatement, textAt};
+ghost use Rattle.c_answers.specs.Returned.{GivesCount, GivesStatement};
 
 #[no_mangle]
-pub extern "C" fn rb_read_job(file: &[u8], offsets: &mut [u32], statements: &mut usize) -> u32
+pub extern "C" fn rb_read_job(file: &[u8], offsets: &mut [u32], statements: &mut usize) -> u64
     ensures { λ r. ⌜ GivesCount (counted (readJob (now (file .entry)) (length (now (offsets .entry))))) r (now (statements .entry)) (now (statements .exit))
         × (now (offsets .exit) ≡ filled (readJob (now (file .entry)) (length (now (offsets .entry)))) (now (offsets .entry))) ⌝ }
 {
     give_job(job::read_job(file, offsets), statements)
 }
 
-fn give_statement(a: StatementAnswer, fields: &mut [u64; 19], mantissa: &mut i64) -> u32
-    ensures { λ r. ⌜ GivesStatement (statementSays a) r (now (fields .entry)) (now (fields .exit)) (now (mantissa .entry)) (now (mantissa .exit)) ⌝ }
-{
-    match a {
-        StatementAnswer::Read(x) => {
-            let s = x.statement;
-            *fields = statement_numbers(s, x.offset, x.next);
-            *mantissa = mantissa_of(s);
-            0
-        }
-        StatementAnswer::Refused(f) => refusal(f),
-    }
-}
-
 #[no_mangle]
-pub extern "C" fn rb_read_statement(
+pub extern "C" fn rb_read_statement_numbers(
     file: &[u8],
     at: usize,
-    fields: &mut [u64; 19],
+    numbers: &mut [u64; 20],
     mantissa: &mut i64,
-) -> u32
-    ensures { λ r. ⌜ GivesStatement (readStatement (now (file .entry)) at) r (now (fields .entry)) (now (fields .exit)) (now (mantissa .entry)) (now (mantissa .exit)) ⌝ }
+) -> u64
+    ensures { λ r. ⌜ GivesStatement (readStatement (now (file .entry)) at) r (now (numbers .entry)) (now (numbers .exit)) (now (mantissa .entry)) (now (mantissa .exit)) ⌝ }
 {
-    give_statement(job::read_statement(file, at), fields, mantissa)
+    give_statement(job::read_statement(file, at), numbers, mantissa)
 }
 
 #[no_mangle]
@@ -67,7 +38,7 @@ pub extern "C" fn rb_is_text_at(file: &[u8], quote: usize) -> bool
 
 // The text is the bytes after the quote: what is returned is their count.
 #[no_mangle]
-pub extern "C" fn rb_text_at(file: &[u8], quote: usize) -> usize
+pub extern "C" fn rb_text_length(file: &[u8], quote: usize) -> usize
     ensures { λ r. ⌜ r ≡ length (textAt (now (file .entry)) quote) ⌝ }
 {
     let text = job::text_at(file, quote);

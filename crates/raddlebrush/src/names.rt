@@ -1,88 +1,33 @@
 // Names of session files.
-use crate::refusal;
-use counts::SESSIONS;
+use c_answers::names::give_name;
+use c_answers::names::give_written;
+use c_numbers::kinds::kind_given;
+use c_numbers::kinds::number_under;
 use counts::SessionNumber;
-use session_name::Kind;
-use session_name::NameRead;
-use session_name::NameWritten;
 ghost use mathlib.Core.Path.{_≡_};
-ghost use Rattle.session_name.specs.Name.{nameRead, readSays, written, writtenBytes, writeSays};
-ghost use Rattle.raddlebrush.specs.Numbers.{kindNumber, kindOf, numberUnder};
-ghost use Rattle.raddlebrush.specs.Returned.{GivesName, GivesCount};
-
-pub const REQUEST: u32 = 0;
-
-pub const RESPONSE: u32 = 1;
-
-fn kind_number(kind: Kind) -> u32
-    ensures { λ r. ⌜ r ≡ kindNumber kind ⌝ }
-{
-    match kind {
-        Kind::Request => REQUEST,
-        Kind::Response => RESPONSE,
-    }
-}
-
-fn kind_of(kind: u32) -> Kind
-    ensures { λ r. ⌜ r ≡ kindOf kind ⌝ }
-{
-    if kind == REQUEST {
-        return Kind::Request;
-    }
-    Kind::Response
-}
-
-// Under a kind that is neither, no number is in its range.
-fn number_under(kind: u32, number: u32) -> u32
-    ensures { λ r. ⌜ r ≡ numberUnder kind number ⌝ }
-{
-    if kind <= RESPONSE { number } else { SESSIONS }
-}
-
-fn give_name(a: NameRead, number: &mut u32, kind: &mut u32) -> u32
-    ensures { λ r. ⌜ GivesName (readSays a) r (now (number .entry)) (now (number .exit)) (now (kind .entry)) (now (kind .exit)) ⌝ }
-{
-    match a {
-        NameRead::Named(n, k) => {
-            *number = n.0;
-            *kind = kind_number(k);
-            0
-        }
-        NameRead::Refused(f) => refusal(f),
-    }
-}
+ghost use Rattle.session_name.specs.Name.{nameRead, written, writtenBytes};
+ghost use Rattle.c_numbers.specs.Kinds.{kindGiven, numberUnder};
+ghost use Rattle.c_answers.specs.Returned.{GivesName, GivesCount};
 
 #[no_mangle]
-pub extern "C" fn rb_read_name(name: &[u8], max: u32, number: &mut u32, kind: &mut u32) -> u32
+pub extern "C" fn rb_read_file_name(name: &[u8], max: u32, number: &mut u32, kind: &mut u32) -> u64
     ensures { λ r. ⌜ GivesName (nameRead max (now (name .entry))) r (now (number .entry)) (now (number .exit)) (now (kind .entry)) (now (kind .exit)) ⌝ }
 {
     give_name(session_name::read_name(name, max), number, kind)
 }
 
-fn give_written(a: NameWritten, count: &mut usize) -> u32
-    ensures { λ r. ⌜ GivesCount (writeSays a) r (now (count .entry)) (now (count .exit)) ⌝ }
-{
-    match a {
-        NameWritten::Bytes(n) => {
-            *count = n;
-            0
-        }
-        NameWritten::Refused(f) => refusal(f),
-    }
-}
-
 #[no_mangle]
-pub extern "C" fn rb_write_name(
+pub extern "C" fn rb_write_file_name(
     number: u32,
     kind: u32,
     max: u32,
     out: &mut [u8],
-    count: &mut usize,
-) -> u32
-    ensures { λ r. ⌜ GivesCount (written max (numberUnder kind number) (now (out .entry))) r (now (count .entry)) (now (count .exit))
-        × (now (out .exit) ≡ writtenBytes max (numberUnder kind number) (kindOf kind) (now (out .entry))) ⌝ }
+    used: &mut usize,
+) -> u64
+    ensures { λ r. ⌜ GivesCount (written max (numberUnder kind number) (now (out .entry))) r (now (used .entry)) (now (used .exit))
+        × (now (out .exit) ≡ writtenBytes max (numberUnder kind number) (kindGiven kind) (now (out .entry))) ⌝ }
 {
     let n = SessionNumber(number_under(kind, number));
-    let a = session_name::write_name(n, kind_of(kind), max, out);
-    give_written(a, count)
+    let a = session_name::write_name(n, kind_given(kind), max, out);
+    give_written(a, used)
 }

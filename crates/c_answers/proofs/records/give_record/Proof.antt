@@ -1,0 +1,33 @@
+use mathlib.Core.Path.{refl}
+use borrow.Author.Needs.{needs}
+use Rattle.c_answers.proofs.records.give_record.Statement.{statement}
+use Rattle.c_answers.proofs.records.give_record.Tie as tie
+
+enum-known-a : tie.Need-enum-known-a
+enum-known-a c = search needs
+
+record-numbers-requires : tie.Need-record-numbers-requires
+record-numbers-requires c κs = search needs
+
+enum-known-a-2 : tie.Need-enum-known-a-2
+enum-known-a-2 c = search needs
+
+refusal-requires : tie.Need-refusal-requires
+refusal-requires c κs = search needs
+
+returns : tie.Need-returns
+returns c = rw (c .before .before .a .given .1) (refl, c .record-numbers .ensures)
+
+returns-2 : tie.Need-returns-2
+returns-2 c = rw (c .before .before .a2 .given .1) (c .refusal .ensures, refl)
+
+pub give-record-spec : {M : Type 1} → statement M
+give-record-spec =
+    tie.close
+    (tie.spec
+    enum-known-a
+    record-numbers-requires
+    enum-known-a-2
+    refusal-requires
+    returns
+    returns-2)

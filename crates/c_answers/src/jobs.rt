@@ -1,0 +1,35 @@
+// Job files.
+use crate::refusal;
+use c_numbers::statements::mantissa_of;
+use c_numbers::statements::statement_numbers;
+use job::JobAnswer;
+use job::StatementAnswer;
+ghost use Rattle.job.specs.Job.{jobSays};
+ghost use Rattle.job.specs.Statement.{statementSays};
+ghost use Rattle.c_answers.specs.Returned.{GivesCount, GivesStatement};
+
+pub fn give_job(a: JobAnswer, statements: &mut usize) -> u64
+    ensures { λ r. ⌜ GivesCount (jobSays a) r (now (statements .entry)) (now (statements .exit)) ⌝ }
+{
+    match a {
+        JobAnswer::Taken(n) => {
+            *statements = n;
+            0
+        }
+        JobAnswer::Refused(f) => refusal(f),
+    }
+}
+
+pub fn give_statement(a: StatementAnswer, numbers: &mut [u64; 20], mantissa: &mut i64) -> u64
+    ensures { λ r. ⌜ GivesStatement (statementSays a) r (now (numbers .entry)) (now (numbers .exit)) (now (mantissa .entry)) (now (mantissa .exit)) ⌝ }
+{
+    match a {
+        StatementAnswer::Read(x) => {
+            let s = x.statement;
+            *numbers = statement_numbers(s, x.offset, x.next);
+            *mantissa = mantissa_of(s);
+            0
+        }
+        StatementAnswer::Refused(f) => refusal(f),
+    }
+}

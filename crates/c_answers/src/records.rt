@@ -1,0 +1,33 @@
+// Response records.
+use crate::refusal;
+use c_numbers::records::record_numbers;
+use record::RecordRead;
+use record::Written;
+ghost use Rattle.record.specs.Reading.{readSays};
+ghost use Rattle.record.specs.Writing.{writeSays};
+ghost use Rattle.c_numbers.specs.Records.{recordNumbers};
+ghost use Rattle.c_answers.specs.Returned.{GivesCount, GivesNumbers};
+
+pub fn give_written(a: Written, used: &mut usize) -> u64
+    ensures { λ r. ⌜ GivesCount (writeSays a) r (now (used .entry)) (now (used .exit)) ⌝ }
+{
+    match a {
+        Written::Bytes(n) => {
+            *used = n;
+            0
+        }
+        Written::Refused(f) => refusal(f),
+    }
+}
+
+pub fn give_record(a: RecordRead, numbers: &mut [u64; 8]) -> u64
+    ensures { λ r. ⌜ GivesNumbers recordNumbers (readSays a) r (now (numbers .entry)) (now (numbers .exit)) ⌝ }
+{
+    match a {
+        RecordRead::Taken(x) => {
+            *numbers = record_numbers(x);
+            0
+        }
+        RecordRead::Refused(f) => refusal(f),
+    }
+}

@@ -1,0 +1,4 @@
+// What document 01 has as cases, as the numbers that the header gives them.
+pub mod kinds;
+pub mod records;
+pub mod statements;

@@ -1,4 +1,0 @@
-pub mod Fields
-pub mod Numbers
-pub mod Records
-pub mod Returned
