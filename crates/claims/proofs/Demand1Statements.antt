@@ -12,7 +12,6 @@ use Rattle.counts.specs.Result.{Result}
 use Rattle.grammar.specs.Statement as read
 use Rattle.item.specs.Tokens.{lineAt}
 use Rattle.item.proofs.Lines.{tokens-at}
-use Rattle.statement.proofs.Plain.{Part}
 use Rattle.job.specs.Statement.{readStatement}
 use Rattle.job.specs.declared.StatementAt.{StatementAt}
 use Rattle.job_claims.specs.Rows.{One}
@@ -42,7 +41,7 @@ module _ (s : List ℕ) (at : ℕ) where
       let r : ReadsOne s l at y o e = reads-one s l at m y o e w in
       (_, is-read {x = r .statement} l m (subst (λ (z : read.Statement). One s at z o e) (sym (r .says)) w))
 
-  judged : length s ≤ fileBytes → at ≤ length s → (x : Part) → Judged s at (lineAt s at .tokens) (lineAt s at .last) x → SomeRow
+  judged : length s ≤ fileBytes → at ≤ length s → (x : Result ℕ) → Judged s at (lineAt s at .tokens) (lineAt s at .last) x → SomeRow
   judged l m x (row.read ([], f, w)) = absurd (no-statement w)
   judged l m x (row.read {e = e} (t ∷ a, f, w)) =
       reads l m (w .0) (t .place) e (record { first = t; more = a; stand = f; reads = w .1; begins = refl })

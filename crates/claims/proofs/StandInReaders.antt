@@ -13,7 +13,7 @@ use Rattle.token.specs.Token.{wordAt, textAt, isTextAt, isTimeAt, isNumberAt, s
 use Rattle.item.specs.Tokens.{abortClass, clauseClass, wordClass, numberClass, dateNumber, timeNumber, itemOf, nextItem, lineFrom, line}
 use Rattle.item.specs.Items.{numbered as numbered-item, itemAt}
 use Rattle.grammar.specs.Reading.{read, Answer as Reading}
-use Rattle.statement.specs.Statement.{oneOf, ending, infoFile, jobName, jobResponse, jobFile, statementOf}
+use Rattle.statement.specs.Statement.{readWithin, readFrom, statementOf}
 use Rattle.statement.specs.declared.Statement.{Statement}
 use Rattle.statement.specs.declared.Statement.the-variants.{Job, GetInfo}
 use Rattle.job.specs.Job.{readJob, filled}
@@ -82,11 +82,11 @@ job-read : (f : StatementReader) → ReadsStatements f → f lone 0 ≡ readStat
 job-read f rows = sym (read-statement-exactly lone 0 .1 (f lone 0) (rows lone 0))
 
 info-is : (e : ℕ) × readStatement info 0 ≡ done (placedAt (GetInfo 8) 0 e)
-unfolding info part same hasAt run runEnd blank blankEnd wordAt textAt isTextAt isTimeAt isNumberAt shapedAt numericAt signAt tokenAt nextToken abortClass clauseClass wordClass numberClass dateNumber timeNumber numbered-item itemAt oneOf ending infoFile jobName jobResponse jobFile statementOf readStatement
+unfolding info part same hasAt run runEnd blank blankEnd wordAt textAt isTextAt isTimeAt isNumberAt shapedAt numericAt signAt tokenAt nextToken abortClass clauseClass wordClass numberClass dateNumber timeNumber numbered-item itemAt readWithin readFrom statementOf readStatement
 info-is = (_, refl)
 
 job-is : (e : ℕ) × readStatement lone 0 ≡ done (placedAt (Job (record { place = 4; length = 1 }) 15) 0 e)
-unfolding lone part same hasAt run runEnd blank blankEnd wordAt textAt isTextAt isTimeAt isNumberAt shapedAt numericAt signAt tokenAt nextToken abortClass clauseClass wordClass numberClass dateNumber timeNumber numbered-item itemAt oneOf ending infoFile jobName jobResponse jobFile statementOf readStatement
+unfolding lone part same hasAt run runEnd blank blankEnd wordAt textAt isTextAt isTimeAt isNumberAt shapedAt numericAt signAt tokenAt nextToken abortClass clauseClass wordClass numberClass dateNumber timeNumber numbered-item itemAt readWithin readFrom statementOf readStatement
 job-is = (_, refl)
 
 pub statement-must-be-read : (f : StatementReader) → ReadsStatements f → StatementRefuses f → ⊥

@@ -1,47 +1,52 @@
--- Classes and points are told apart by their numbers. Assumes nothing.
+-- Classes and points are told apart by their numbers; and what a test says of each in the list of all, it says of any.
 use mathlib.Core.Path.{_≡_, refl, sym, _∙_, ap}
-use mathlib.Core.Bool.{true}
-use mathlib.Core.List.{[], _∷_}
-use Prim.Native.Nat.{ℕ, _<_}
-use borrow.Author.Tests.{eqb-true}
-use lib.Dec.{lit<}
+use mathlib.Core.Bool.{Bool, true, _&&_}
+use mathlib.Core.List.{List, [], _∷_}
+use Prim.Native.Nat.{ℕ, zero, suc, _<_}
+use borrow.Author.Tests.{eqb-true, ltb-true}
+use lib.Dec.{ltb}
 use lib.ListN.{getD}
+use Rattle.laws.proofs.Choose.{and-left, and-right}
 use Rattle.grammar.specs.Grammar.{Class, Point, isClass, isPoint, classNo, pointNo}
 use Rattle.grammar.specs.Grammar.Class.{JOB, RESPONSE, UPLOAD, DOWNLOAD, GETINFO, ABORT, REPORT, EVENT, START, ACTIVE, IMMEDIATE, reserved, name, TIME≥, number, date, unrealDate, time, unrealTime, string, operator, semicolon}
 use Rattle.grammar.specs.Grammar.Point.{first, between, statement, jobName, jobResponse, jobFile, moveFile, moveSource, moveStart, startKind, startTime, startDate, startOperator, startValue, infoFile, abortKind, abortName, ending, done, dead}
 
 -- there are 22 classes
-abbrev classOf : ℕ → Class
-classOf n = getD (JOB ∷ RESPONSE ∷ UPLOAD ∷ DOWNLOAD ∷ GETINFO ∷ ABORT ∷ REPORT ∷ EVENT ∷ START ∷ ACTIVE ∷ IMMEDIATE ∷ reserved ∷ name ∷ TIME≥ ∷ number ∷ date ∷ unrealDate ∷ time ∷ unrealTime ∷ string ∷ operator ∷ semicolon ∷ []) n reserved
+abbrev all-classes : List Class
+all-classes =
+    JOB ∷ RESPONSE ∷ UPLOAD ∷ DOWNLOAD ∷ GETINFO ∷ ABORT ∷ REPORT ∷ EVENT ∷ START ∷ ACTIVE ∷ IMMEDIATE ∷ reserved ∷ name
+    ∷ TIME≥ ∷ number ∷ date ∷ unrealDate ∷ time ∷ unrealTime ∷ string ∷ operator ∷ semicolon ∷ []
 
-abbrev pointOf : ℕ → Point
-pointOf n = getD (first ∷ between ∷ statement ∷ jobName ∷ jobResponse ∷ jobFile ∷ moveFile ∷ moveSource ∷ moveStart ∷ startKind ∷ startTime ∷ startDate ∷ startOperator ∷ startValue ∷ infoFile ∷ abortKind ∷ abortName ∷ ending ∷ done ∷ dead ∷ []) n dead
+abbrev pub all-points : List Point
+all-points =
+    first ∷ between ∷ statement ∷ jobName ∷ jobResponse ∷ jobFile ∷ moveFile ∷ moveSource ∷ moveStart ∷ startKind ∷ startTime
+    ∷ startDate ∷ startOperator ∷ startValue ∷ infoFile ∷ abortKind ∷ abortName ∷ ending ∷ done ∷ dead ∷ []
 
-class-again : (c : Class) → (classOf (classNo c) ≡ c) × (classNo c < 22)
-class-again JOB = (refl, lit< tt)
-class-again RESPONSE = (refl, lit< tt)
-class-again UPLOAD = (refl, lit< tt)
-class-again DOWNLOAD = (refl, lit< tt)
-class-again GETINFO = (refl, lit< tt)
-class-again ABORT = (refl, lit< tt)
-class-again REPORT = (refl, lit< tt)
-class-again EVENT = (refl, lit< tt)
-class-again START = (refl, lit< tt)
-class-again ACTIVE = (refl, lit< tt)
-class-again IMMEDIATE = (refl, lit< tt)
-class-again reserved = (refl, lit< tt)
-class-again name = (refl, lit< tt)
-class-again TIME≥ = (refl, lit< tt)
-class-again number = (refl, lit< tt)
-class-again date = (refl, lit< tt)
-class-again unrealDate = (refl, lit< tt)
-class-again time = (refl, lit< tt)
-class-again unrealTime = (refl, lit< tt)
-class-again string = (refl, lit< tt)
-class-again operator = (refl, lit< tt)
-class-again semicolon = (refl, lit< tt)
+class-again : (c : Class) → getD all-classes (classNo c) JOB ≡ c
+class-again JOB = refl
+class-again RESPONSE = refl
+class-again UPLOAD = refl
+class-again DOWNLOAD = refl
+class-again GETINFO = refl
+class-again ABORT = refl
+class-again REPORT = refl
+class-again EVENT = refl
+class-again START = refl
+class-again ACTIVE = refl
+class-again IMMEDIATE = refl
+class-again reserved = refl
+class-again name = refl
+class-again TIME≥ = refl
+class-again number = refl
+class-again date = refl
+class-again unrealDate = refl
+class-again time = refl
+class-again unrealTime = refl
+class-again string = refl
+class-again operator = refl
+class-again semicolon = refl
 
-point-again : (q : Point) → pointOf (pointNo q) ≡ q
+point-again : (q : Point) → getD all-points (pointNo q) first ≡ q
 point-again first = refl
 point-again between = refl
 point-again statement = refl
@@ -64,10 +69,27 @@ point-again done = refl
 point-again dead = refl
 
 pub is-class : (c d : Class) → isClass c d ≡ true → c ≡ d
-is-class c d e = sym (class-again c .0) ∙ ap classOf {x = classNo c} {y = classNo d} (eqb-true _ _ e) ∙ class-again d .0
-
-pub class-below : (c : Class) → classNo c < 22
-class-below c = class-again c .1
+is-class c d e = sym (class-again c) ∙ ap (λ (n : ℕ). getD all-classes n JOB) {x = classNo c} {y = classNo d} (eqb-true _ _ e) ∙ class-again d
 
 pub is-point : (p q : Point) → isPoint p q ≡ true → p ≡ q
-is-point p q e = sym (point-again p) ∙ ap pointOf {x = pointNo p} {y = pointNo q} (eqb-true _ _ e) ∙ point-again q
+is-point p q e = sym (point-again p) ∙ ap (λ (n : ℕ). getD all-points n first) {x = pointNo p} {y = pointNo q} (eqb-true _ _ e) ∙ point-again q
+
+-- ---- one computed test over the list of all
+
+abbrev pub every : {A : Type 0} → (A → Bool) → List A → Bool
+every t [] = true
+every t (x ∷ l) = t x && every t l
+
+at-each : {A : Type 0} (t : A → Bool) (d : A) (l : List A) → t d ≡ true → every t l ≡ true → (n : ℕ) → t (getD l n d) ≡ true
+at-each t d [] p h n = p
+at-each t d (x ∷ l) p h zero = and-left (t x) (every t l) h
+at-each t d (x ∷ l) p h (suc n) = at-each t d l p (and-right (t x) (every t l) h) n
+
+pub at-class : (t : Class → Bool) → every t all-classes ≡ true → (c : Class) → t c ≡ true
+at-class t h c = ap t (sym (class-again c)) ∙ at-each t JOB all-classes (and-left _ _ h) h (classNo c)
+
+pub at-point : (t : Point → Bool) → every t all-points ≡ true → (q : Point) → t q ≡ true
+at-point t h q = ap t (sym (point-again q)) ∙ at-each t first all-points (and-left _ _ h) h (pointNo q)
+
+pub class-below : (c : Class) → classNo c < 22
+class-below c = ltb-true _ _ (at-class (λ d. ltb (classNo d) 22) refl c)

@@ -6,7 +6,7 @@ use mathlib.Core.Bool.{Bool, true, false, true≢false, cond}
 use mathlib.Core.List.{List, [], _∷_, _++_}
 use Prim.Native.Nat.{ℕ}
 use native.Mathlib.Omega.{arith}
-use Rattle.grammar.specs.Grammar.{Class, Point, Edge, next, look, step, walk, isClass, isPoint}
+use Rattle.grammar.specs.Grammar.{Class, Point, Edge, Each, next, look, step, walk, isClass, isPoint}
 use Rattle.grammar.specs.Grammar.Class.{JOB, RESPONSE, UPLOAD, DOWNLOAD, GETINFO, ABORT, REPORT, EVENT, START, name, TIME≥, time, string, operator, semicolon}
 use Rattle.grammar.specs.Grammar.Point.{first, between, statement, jobName, jobResponse, jobFile, moveFile, moveSource, moveStart, startKind, startTime, startDate, startOperator, startValue, infoFile, abortKind, abortName, ending, done, dead}
 use Rattle.grammar.specs.Statement.{Statement}
@@ -76,10 +76,6 @@ Tail q k = cond (isPoint q done) (Nothing k) (Closed (Body q) k)
 -- each edge puts a token of its class in front
 abbrev Joins : Point → Edge → Type 0
 Joins q e = (t : Placed) → Is (e .class) t → (k : List Placed) → Tail (e .to) k → Tail q (t ∷ k)
-
-abbrev pub Each : (Edge → Type 0) → List Edge → Type 0
-Each P [] = Unit {0}
-Each P (e ∷ es) = P e × Each P es
 
 on : {B D : List Placed → Type 0} {c : Class} → ((t : Placed) → Is c t → (k : List Placed) → B k → D (t ∷ k)) → (t : Placed) → Is c t
     → (k : List Placed) → Closed B k → Closed D (t ∷ k)

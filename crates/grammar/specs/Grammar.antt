@@ -28,6 +28,11 @@ pub record Edge : Type 0 where
 abbrev pub on : Class → Point → List Edge → List Edge
 on c q es = record { class = c; to = q } ∷ es
 
+-- something of each edge
+abbrev pub Each : (Edge → Type 0) → List Edge → Type 0
+Each P [] = Unit {0}
+Each P (e ∷ es) = P e × Each P es
+
 -- a statement that is no JOB
 abbrev pub others : List Edge
 others = on UPLOAD moveFile (on DOWNLOAD moveFile (on GETINFO infoFile (on ABORT abortKind [])))

@@ -1,4 +1,4 @@
--- Reading statement by statement is reading the whole list of tokens through the points. Assumes nothing.
+-- Reading statement by statement is reading the whole list of tokens through the points.
 use Prim.Native.Nat.{ℕ, zero, suc, _+_, _≤_, _<_}
 use mathlib.Core.Path.{_≡_, refl, sym, _∙_, ap, ap₂}
 use mathlib.Core.Bool.{Bool, true, false, cond}
@@ -8,51 +8,36 @@ use borrow.Author.Tests.{lt-ltb, le-ltb, eq-eqb, ne-eqb}
 use lib.Dec.{eqb, ltb}
 use lib.ListN.{length, length-append}
 use Rattle.counts.specs.Limits.{statements}
-use Rattle.counts.specs.Refusals.{noToken, unexpected, tooManyStatements}
+use Rattle.counts.specs.Refusals.{noToken, unexpected, tooManyStatements, refusal}
 use Rattle.counts.specs.Result.Result.{refused}
-use Rattle.grammar.specs.Grammar.{Class, classNo, isClass, isPoint, shape}
+use Rattle.grammar.specs.Grammar.{Class, classNo, isClass, shape}
 use Rattle.grammar.specs.Grammar.Class.{JOB, date, unrealDate, time, unrealTime}
-use Rattle.grammar.specs.Grammar.Point.{done}
-use Rattle.grammar.specs.Productions.{Said, Placed}
-use Rattle.grammar.specs.Reading.{State, Last, Answer, opening, move, moves, atEnd, close, read}
+use Rattle.grammar.specs.Grammar.Point.{statement, done}
+use Rattle.grammar.specs.Productions.{Placed}
+use Rattle.grammar.specs.Reading.{State, Last, Answer, turn, opening, move, moves, atEnd, close, read}
 use Rattle.grammar.specs.Reading.State.{on, wrong}
 use Rattle.grammar.proofs.Moves.{moves-wrong}
 use Rattle.grammar.proofs.Apart.{is-class, class-below}
-use Rattle.item.specs.Tokens.{Next, at, nextItem, Tokens}
+use Rattle.item.specs.Tokens.{Tokens}
 use Rattle.item.specs.Tokens.Next.{item, ended, none}
 use Rattle.item.specs.Tokens.Tokens.{at-end, no-token, then}
 use Rattle.item.specs.Items.{endNo, noneNo, itemAt}
 use Rattle.item.specs.declared.Item.{Item}
 use Rattle.item.proofs.Shows.{Shows, shows}
 use Rattle.item.proofs.Shows.Shows.{a-token, the-end, no-token as none-there}
-use Rattle.statement.specs.Statement.{statementOf}
+use Rattle.statement.specs.Statement.{readFrom}
 use Rattle.statement.specs.declared.StatementRead.{StatementRead}
 use Rattle.statement.specs.declared.StatementRead.the-variants.{Is, Refused}
-use Rattle.statement.proofs.Plain as plain
-use Rattle.statement.proofs.Plain.{Part, partAt}
-use Rattle.statement.proofs.Plain.Part.{whole, stopped}
-use Rattle.statement.proofs.Bridge.{Reads, part-reads}
-use Rattle.statement.proofs.Forget.{forget}
-use Rattle.statement.proofs.Words.{statement-is}
+use Rattle.statement.proofs.Along.{any-kind}
+use Rattle.statement.proofs.Bridge.{Reads, rest-reads}
 use Rattle.job.specs.Loop.{stop, stepRead, stepInto, stepOf, onStep, jobLoop}
 use Rattle.job.specs.declared.Step.{Step}
 use Rattle.job.specs.declared.Step.the-variants.{Over, Stop, On}
 
--- what a step says of a statement's rest
-abbrev pub stepPart : Part → Step
-stepPart (whole b) = On b
-stepPart (stopped n p) = Stop (record { number = n; place = p })
-
-abbrev stopAt : ℕ → Step
-stopAt p = Stop (record { number = unexpected; place = p })
-
--- a statement of any kind
-abbrev anyOf : List ℕ → Next → Step
-anyOf s x = stepPart (plain.onItem (plain.or JOB (plain.jobNameAt s) (plain.others s)) x)
-
-forget-step : (r : StatementRead) → stepRead r ≡ stepPart (forget r)
-forget-step (Is x b) = refl
-forget-step (Refused r) = refl
+-- at the start only JOB may stand, and later any statement but JOB: the first where it is so, else the second
+abbrev byJob : {A : Type 0} → List ℕ → Bool → A → A → A
+byJob [] b x y = cond b x y
+byJob (o ∷ os) b x y = cond b y x
 
 -- what is no JOB has not its shape
 not-job : (c : Class) → isClass c JOB ≡ false → isClass (shape c) JOB ≡ false
@@ -63,17 +48,16 @@ not-job c e = go (isClass c unrealTime) (isClass c unrealDate)
     go false true = refl
     go false false = e
 
--- at the start only JOB may stand, and later any statement but JOB: by the class
-opened : (s : List ℕ) (c : Class) (p b : ℕ) (x : Said)
-    → (stepPart (plain.onItem (plain.or JOB (plain.jobNameAt s) []) (at c p b x)) ≡ cond (isClass c JOB) (anyOf s (at c p b x)) (stopAt p))
-    × (stepPart (plain.onItem (plain.others s) (at c p b x)) ≡ cond (isClass c JOB) (stopAt p) (anyOf s (at c p b x)))
-opened s c p b x = go (isClass c JOB) refl
+-- the points of a first statement and of a later one, by the class
+opening-is : (os rs : List ℕ) (t : Placed) → turn (opening os) rs t ≡ byJob os (isClass (t .class) JOB) (turn statement rs t) (wrong unexpected (t .place))
+opening-is os rs t = go os (isClass (t .class) JOB) refl
   where
-    go : (y : Bool) → isClass c JOB ≡ y
-        → (stepPart (plain.onItem (plain.or JOB (plain.jobNameAt s) []) (at c p b x)) ≡ cond (isClass c JOB) (anyOf s (at c p b x)) (stopAt p))
-        × (stepPart (plain.onItem (plain.others s) (at c p b x)) ≡ cond (isClass c JOB) (stopAt p) (anyOf s (at c p b x)))
-    go true e = rw (is-class c JOB e) (refl, refl)
-    go false e = rw (e, not-job c e) (refl, refl)
+    go : (os : List ℕ) (b : Bool) → isClass (t .class) JOB ≡ b
+        → turn (opening os) rs t ≡ byJob os (isClass (t .class) JOB) (turn statement rs t) (wrong unexpected (t .place))
+    go [] true e = rw (is-class (t .class) JOB e)
+    go [] false e = rw (e, not-job (t .class) e)
+    go (o ∷ os) true e = rw (is-class (t .class) JOB e)
+    go (o ∷ os) false e = rw (e, not-job (t .class) e)
 
 -- what stands between statements, by the tests
 tested : (s : List ℕ) (k : ℕ) (t : Item) (a b f z : Bool) → eqb (t .class) endNo ≡ a → eqb (t .class) noneNo ≡ b → eqb k statements ≡ f → eqb k 0 ≡ z
@@ -104,55 +88,54 @@ module _ (s : List ℕ) where
       ap (λ (x : Step). onStep x os (t .place) k) (tested s (length os) t false false true _ (not-end t (u .class) c) (not-none t (u .class) c) (eq-eqb _ _ l) refl)
       ∙ ap (refused tooManyStatements) p
 
-  -- a statement of any kind, as the words of `Plain` have it
-  any-is : (i : ℕ) (x : Next) → nextItem s i ≡ x → stepRead (statementOf 0 s (itemAt 0 s i)) ≡ anyOf s x
-  unfolding plain.oneOf
-  any-is i x e = forget-step (statementOf 0 s (itemAt 0 s i)) ∙ ap stepPart (statement-is s i) ∙ ap (anyOf s) e
+  into : (os : List ℕ) (i : ℕ) (u : Placed) → Shows (itemAt 0 s i) (item u)
+      → stepInto s (length os) (itemAt 0 s i)
+      ≡ byJob os (isClass (u .class) JOB) (stepRead (readFrom 0 s statement tt i)) (Stop (refusal unexpected (u .place)))
+  unfolding stepInto
+  into [] i u (a-token c p n) = rw (any-kind s i, c, p)
+  into (o ∷ os) i u (a-token c p n) = rw (ne-eqb (length (o ∷ os)) 0 (λ z. omega arith), any-kind s i, c, p)
 
-  stop-is : (t : Item) (p : ℕ) → t .place ≡ p → stop unexpected t ≡ stopAt p
-  stop-is t p e = ap stopAt e
-
-  into : (os : List ℕ) (i : ℕ) (u : Placed) → nextItem s i ≡ item u → Shows (itemAt 0 s i) (item u) → stepInto s (length os) (itemAt 0 s i) ≡ stepPart (partAt s (opening os) i)
-  unfolding stepInto plain.oneOf
-  into [] i u e (a-token c p n) =
-      ap (λ (z : Bool). cond z (stepRead (statementOf 0 s (itemAt 0 s i))) (stop unexpected (itemAt 0 s i))) (ap (λ (m : ℕ). eqb m (classNo JOB)) c)
-      ∙ ap₂ (cond (isClass (u .class) JOB)) (any-is i (item u) e) (stop-is (itemAt 0 s i) (u .place) p)
-      ∙ sym (opened s (u .class) (u .place) (u .end) (u .said) .0)
-      ∙ ap (λ (x : Next). stepPart (plain.onItem (plain.or JOB (plain.jobNameAt s) []) x)) (sym e)
-  into (o ∷ os) i u e (a-token c p n) =
-      rw (ne-eqb (length (o ∷ os)) 0 (λ z. omega arith))
-      (ap (λ (z : Bool). cond z (stop unexpected (itemAt 0 s i)) (stepRead (statementOf 0 s (itemAt 0 s i)))) (ap (λ (m : ℕ). eqb m (classNo JOB)) c)
-      ∙ ap₂ (cond (isClass (u .class) JOB)) (stop-is (itemAt 0 s i) (u .place) p) (any-is i (item u) e)
-      ∙ sym (opened s (u .class) (u .place) (u .end) (u .said) .1)
-      ∙ ap (λ (x : Next). stepPart (plain.onItem (plain.others s) x)) (sym e))
-
-  one-step : (os : List ℕ) (i : ℕ) (u : Placed) → length os < statements → nextItem s i ≡ item u → Shows (itemAt 0 s i) (item u) → stepOf s (length os) (itemAt 0 s i) ≡ stepPart (partAt s (opening os) i)
-  one-step os i u l e (a-token c p n) =
-      tested s (length os) (itemAt 0 s i) false false false _ (not-end (itemAt 0 s i) (u .class) c) (not-none (itemAt 0 s i) (u .class) c) (ne-eqb (length os) statements (λ z. omega arith)) refl
-      ∙ into os i u e (a-token c p n)
+  one-step : (os : List ℕ) (i : ℕ) (u : Placed) → length os < statements → Shows (itemAt 0 s i) (item u)
+      → stepOf s (length os) (itemAt 0 s i)
+      ≡ byJob os (isClass (u .class) JOB) (stepRead (readFrom 0 s statement tt i)) (Stop (refusal unexpected (u .place)))
+  one-step os i u l (a-token c p n) =
+      tested s (length os) (itemAt 0 s i) false false false _ (not-end (itemAt 0 s i) (u .class) c) (not-none (itemAt 0 s i) (u .class) c)
+      (ne-eqb (length os) statements (λ z. omega arith)) refl
+      ∙ into os i u (a-token c p n)
 
   place-is : {t : Item} {u : Placed} → Shows t (item u) → t .place ≡ u .place
   place-is (a-token c p n) = p
-
-  opens : (os : List ℕ) → isPoint (opening os) done ≡ false
-  opens [] = refl
-  opens (o ∷ os) = refl
-
-  -- a token that begins a statement
-  begun : (os : List ℕ) (t : Placed) → ltb (length os) statements ≡ true → move (on done os) t ≡ move (on (opening os) (os ++ (t .place ∷ []))) t
-  begun os t l = rw (l, opens os)
 
   too-many : (os : List ℕ) (t : Placed) → statements ≤ length os → move (on done os) t ≡ wrong tooManyStatements (t .place)
   too-many os t l = rw (le-ltb (length os) statements l)
 
   -- after a statement that begins with t
   module _ (left : ℕ) (os : List ℕ) (t : Placed) (ts : List Placed) (z : Last) (n : length os + suc left ≡ statements) (later : (b : ℕ) (rest : List Placed) → Tokens s b rest z → jobLoop s (suc left) (os ++ (t .place ∷ [])) b ≡ close (moves (on done (os ++ (t .place ∷ []))) rest) z) where
-    begins-so : close (moves (on done os) (t ∷ ts)) z ≡ close (moves (on (opening os) (os ++ (t .place ∷ []))) (t ∷ ts)) z
-    begins-so = ap (λ (x : State). close (moves x ts) z) (begun os t (lt-ltb (length os) statements (omega arith)))
+    abbrev goes : Step → Answer
+    goes x = onStep x os (t .place) (jobLoop s (suc left))
 
-    goes-on : (x : Part) → Reads s (opening os) (os ++ (t .place ∷ [])) (t ∷ ts) z x → onStep (stepPart x) os (t .place) (jobLoop s (suc left)) ≡ close (moves (on done os) (t ∷ ts)) z
-    goes-on (whole b) y = later b (y .0) (y .1) ∙ sym (y .2) ∙ sym begins-so
-    goes-on (stopped m p) y = sym y ∙ sym begins-so
+    abbrev so : State → Answer
+    so x = close (moves x ts) z
+
+    any-goes : (x : StatementRead) → Reads s statement (os ++ (t .place ∷ [])) (t ∷ ts) z x → goes (stepRead x) ≡ so (turn statement (os ++ (t .place ∷ [])) t)
+    any-goes (Is x b) y = later b (y .0) (y .1) ∙ sym (y .2)
+    any-goes (Refused r) y = sym y
+
+    stops : goes (Stop (refusal unexpected (t .place))) ≡ so (wrong unexpected (t .place))
+    stops = sym (ap (λ (x : State). close x z) (moves-wrong unexpected (t .place) ts))
+
+    either : (rs : List ℕ) (b : Bool) (x : Step) → goes x ≡ so (turn statement (os ++ (t .place ∷ [])) t)
+        → goes (byJob rs b x (Stop (refusal unexpected (t .place)))) ≡ so (byJob rs b (turn statement (os ++ (t .place ∷ [])) t) (wrong unexpected (t .place)))
+    either [] true x e = e
+    either [] false x e = stops
+    either (o ∷ rs) true x e = stops
+    either (o ∷ rs) false x e = e
+
+    goes-on : (i : ℕ) → Tokens s i (t ∷ ts) z
+        → goes (byJob os (isClass (t .class) JOB) (stepRead (readFrom 0 s statement tt i)) (Stop (refusal unexpected (t .place)))) ≡ so (move (on done os) t)
+    goes-on i d =
+        either os (isClass (t .class) JOB) _ (any-goes (readFrom 0 s statement tt i) (rest-reads s d statement tt (os ++ (t .place ∷ []))))
+        ∙ ap so (sym (rw (lt-ltb (length os) statements (omega arith)) (opening-is os (os ++ (t .place ∷ [])) t)))
 
   count : (os : List ℕ) (p left : ℕ) → length os + suc left ≡ statements → length (os ++ (p ∷ [])) + left ≡ statements
   count os p left n = simp length-append (omega arith)
@@ -169,8 +152,8 @@ module _ (s : List ℕ) where
   loop (suc left) {i = i} (no-token {p = p} e) os n = at-no-token (itemAt 0 s i) p os (jobLoop s (suc left)) (rw e at (shows s i))
   loop (suc left) {i = i} {z = z} (then {t = t} {ts = ts} e r) os n =
       let h : Shows (itemAt 0 s i) (item t) = rw e at (shows s i) in
-      ap₂ (λ (x : Step) (p : ℕ). onStep x os p (jobLoop s (suc left))) (one-step os i t (omega arith) e h) (place-is h)
-      ∙ goes-on left os t ts z n (λ c rest d. loop left d (os ++ (t .place ∷ [])) (count os (t .place) left n)) (partAt s (opening os) i) (part-reads s (then e r) (opening os) (os ++ (t .place ∷ [])))
+      ap₂ (λ (x : Step) (p : ℕ). onStep x os p (jobLoop s (suc left))) (one-step os i t (omega arith) h) (place-is h)
+      ∙ goes-on left os t ts z n (λ c rest d. loop left d (os ++ (t .place ∷ [])) (count os (t .place) left n)) i (then e r)
 
   -- reading statement by statement gives the answer of the whole list
   pub by-statements : {ts : List Placed} {z : Last} → Tokens s 0 ts z → jobLoop s (statements + 1) [] 0 ≡ read ts z

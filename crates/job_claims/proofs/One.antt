@@ -1,11 +1,13 @@
--- One statement, from a place on, is read and refused exactly as its rows say. Assumes nothing.
+-- One statement, from a place on, is read and refused exactly as its rows say.
 use Prim.Native.Nat.{ℕ}
 use mathlib.Core.Path.{_≡_, refl, sym, _∙_, ap, subst}
 use mathlib.Core.Bool.{Bool, true, false, true≢false, cond}
 use mathlib.Core.List.{List, [], _∷_, _++_, append-assoc, append-nil}
 use native.Mathlib.Omega.{arith}
-use Rattle.counts.specs.Refusals.{noToken, unexpected, notReal}
-use Rattle.grammar.specs.Grammar.{Class, Point, step, walk, isPoint, shape}
+use Rattle.counts.specs.Refusals.{noToken, unexpected, notReal, refusal}
+use Rattle.counts.specs.Result.{Result}
+use Rattle.counts.specs.Result.Result.{refused, done as whole}
+use Rattle.grammar.specs.Grammar.{Class, Point, next, step, walk, isPoint, shape}
 use Rattle.grammar.specs.Grammar.Point.{statement, done, dead}
 use Rattle.grammar.specs.Productions.{Placed, classes}
 use Rattle.grammar.specs.Reading.{Last}
@@ -17,10 +19,12 @@ use Rattle.grammar.proofs.Ways.{finish, finishes}
 use Rattle.grammar.proofs.Viable.{placed, its-classes}
 use Rattle.item.specs.Tokens.{nextItem, Tokens, After}
 use Rattle.item.specs.Tokens.Next.{item, ended, none}
+use Rattle.item.specs.Items.{itemAt}
 use Rattle.item.specs.Tokens.Tokens.{at-end, no-token, then as and-then}
-use Rattle.statement.proofs.Plain.{Part, partAt}
-use Rattle.statement.proofs.Plain.Part.{whole, stopped}
-use Rattle.statement.proofs.Bridge.{on-token, on-end, on-none}
+use Rattle.statement.specs.declared.StatementRead.{StatementRead}
+use Rattle.statement.specs.declared.StatementRead.the-variants.{Is, Refused}
+use Rattle.statement.specs.Statement.{Held, adds, readFrom}
+use Rattle.statement.proofs.Along.{is-whole, after, on-token, on-end, on-none}
 use Rattle.item.specs.Tokens.After.{here, then}
 use Rattle.job_claims.specs.Rows.{WholeOne, Opens, OneThree, OneFourEnd, OneFourToken, OneFive}
 
@@ -67,13 +71,18 @@ still-open a n = refuted (isPoint (point a) done) (λ e. n (walked-any a (is-poi
 abbrev pub WholeAt : List ℕ → ℕ → ℕ → Type 0
 WholeAt s at e = (a : List Placed) × After s at a e × WholeOne a
 
+-- an answer without the statement's values: the place after its `;`, or the refusal
+abbrev pub endOf : StatementRead → Result ℕ
+endOf (Is x e) = whole e
+endOf (Refused r) = refused (r .number) (r .place)
+
 -- the verdict on one statement
-pub data Judged (s : List ℕ) (at : ℕ) (ts : List Placed) (z : Last) : Part → Type 0 where
+pub data Judged (s : List ℕ) (at : ℕ) (ts : List Placed) (z : Last) : Result ℕ → Type 0 where
   read : {e : ℕ} → WholeAt s at e → Judged s at ts z (whole e)
-  three : {p : ℕ} → OneThree ts z p → Judged s at ts z (stopped noToken p)
-  four-end : {p : ℕ} → OneFourEnd ts z p → Judged s at ts z (stopped unexpected p)
-  four-token : {p : ℕ} → OneFourToken ts p → Judged s at ts z (stopped unexpected p)
-  five : {p : ℕ} → OneFive ts p → Judged s at ts z (stopped notReal p)
+  three : {p : ℕ} → OneThree ts z p → Judged s at ts z (refused noToken p)
+  four-end : {p : ℕ} → OneFourEnd ts z p → Judged s at ts z (refused unexpected p)
+  four-token : {p : ℕ} → OneFourToken ts p → Judged s at ts z (refused unexpected p)
+  five : {p : ℕ} → OneFive ts p → Judged s at ts z (refused notReal p)
 
 dead-after : (a : List Placed) (t : Placed) → ¬ Opens (a ++ (t ∷ [])) → isPoint (step (point a) (t .class)) dead ≡ true
 dead-after a t bad = go (isPoint (step (point a) (t .class)) dead) refl
@@ -87,13 +96,22 @@ module _ (s : List ℕ) where
   after-more here e = then e here
   after-more (then d r) e = then d (after-more r e)
 
+  -- where the reading from a point ends
+  abbrev ends : (q : Point) → Held q → ℕ → Result ℕ
+  ends q h i = endOf (readFrom 0 s q h i)
+
+  ends-whole : (q : Point) (h : Held q) (i : ℕ) → q ≡ done → ends q h i ≡ whole i
+  ends-whole q h i e = subst (λ (p : Point). (x : Held p) → ends p x i ≡ whole i) (sym e) (λ x. ap endOf (is-whole 0 s x i)) h
+
   -- reading goes along the tokens of an open statement
-  along : {i j : ℕ} {a : List Placed} → After s i a j → (q : Point) → isPoint (walk q (classes a)) dead ≡ false → partAt s q i ≡ partAt s (walk q (classes a)) j
-  along here q l = refl
-  along {i = i} (then {t = t} {a = a} e r) q l =
+  along : {i j : ℕ} {a : List Placed} → After s i a j → (q : Point) (h : Held q) → isPoint (walk q (classes a)) dead ≡ false
+      → (x : Held (walk q (classes a))) × ends q h i ≡ ends (walk q (classes a)) x j
+  along here q h l = (h, refl)
+  along {i = i} (then {t = t} {a = a} e r) q h l =
       let d : isPoint q done ≡ false = elsewhere q done (t .class ∷ classes a) (stays (classes a)) l in
       let n : isPoint (step q (t .class)) dead ≡ false = elsewhere (step q (t .class)) dead (classes a) (stays (classes a)) l in
-      on-token s q d i t e ∙ rw n (along r (step q (t .class)) l)
+      let k = along r (step q (t .class)) (after q (t .class) (next q) (adds q) (itemAt 0 s i) h) l in
+      (k .0, ap endOf (on-token s q h d i t e) ∙ rw n (k .1))
 
   -- the tokens of a file, cut in two
   pub record Cut (i : ℕ) (a rest : List Placed) (z : Last) : Type 0 where
@@ -123,35 +141,45 @@ module _ (s : List ℕ) where
 
   -- the rows give the reading
   module _ (at : ℕ) (ts : List Placed) (z : Last) (d : Tokens s at ts z) where
-    whole-is : (e : ℕ) → WholeAt s at e → partAt s statement at ≡ whole e
-    whole-is e (a, f, w) = along f statement (ap (λ (q : Point). isPoint q dead) (any-walks (w .1))) ∙ ap (λ (q : Point). partAt s q e) (any-walks (w .1))
+    -- from `at` on to the end of the tokens a
+    so-far : {a : List Placed} {j : ℕ} (f : After s at a j) (l : isPoint (point a) dead ≡ false) → (x : Held (point a)) × ends statement tt at ≡ ends (point a) x j
+    so-far f l = along f statement tt l
 
-    none-is : (p : ℕ) → OneThree ts z p → partAt s statement at ≡ stopped noToken p
+    whole-is : (e : ℕ) → WholeAt s at e → ends statement tt at ≡ whole e
+    whole-is e (a, f, w) =
+        let k = so-far f (ap (λ (q : Point). isPoint q dead) (any-walks (w .1))) in
+        k .1 ∙ ends-whole (point a) (k .0) e (any-walks (w .1))
+
+    none-is : (p : ℕ) → OneThree ts z p → ends statement tt at ≡ refused noToken p
     none-is p (o, n, e) =
         let c : Cut at ts [] (broken p) = cut ts (subst (Tokens s at ts) e d) (sym (append-nil ts)) in
-        along (c .first) statement (alive ts o) ∙ on-none s (point ts) (still-open ts n) (c .place) p (next-none (c .then-rest))
+        let k = so-far (c .first) (alive ts o) in
+        k .1 ∙ ap endOf (on-none s (point ts) (k .0) (still-open ts n) (c .place) p (next-none (c .then-rest)))
 
-    end-is : (p : ℕ) → OneFourEnd ts z p → partAt s statement at ≡ stopped unexpected p
+    end-is : (p : ℕ) → OneFourEnd ts z p → ends statement tt at ≡ refused unexpected p
     end-is p (o, n, e) =
         let c : Cut at ts [] (end p) = cut ts (subst (Tokens s at ts) e d) (sym (append-nil ts)) in
-        along (c .first) statement (alive ts o) ∙ on-end s (point ts) (still-open ts n) (c .place) p (next-end (c .then-rest))
+        let k = so-far (c .first) (alive ts o) in
+        k .1 ∙ ap endOf (on-end s (point ts) (k .0) (still-open ts n) (c .place) p (next-end (c .then-rest)))
 
-    -- at the token t after a
-    at-token : (a : List Placed) (t : Placed) (p : ℕ) → Stands ts p a t → isPoint (point a) dead ≡ false → isPoint (point a) done ≡ false → (x y : Bool) → isPoint (step (point a) (t .class)) dead ≡ x → isPoint (step (point a) (shape (t .class))) dead ≡ y → (q : Part) → cond x (cond y (stopped unexpected (t .place)) (stopped notReal (t .place))) (partAt s (step (point a) (t .class)) (t .end)) ≡ q → partAt s statement at ≡ q
-    at-token a t p h l n x y e f q g =
+    -- refused at the token t after a
+    at-token : (a : List Placed) (t : Placed) (p : ℕ) → Stands ts p a t → isPoint (point a) dead ≡ false → isPoint (point a) done ≡ false
+        → isPoint (step (point a) (t .class)) dead ≡ true → (y : Bool) → isPoint (step (point a) (shape (t .class))) dead ≡ y
+        → ends statement tt at ≡ endOf (cond y (Refused (refusal unexpected p)) (Refused (refusal notReal p)))
+    at-token a t p h l n e y f =
         let c : Cut at a (t ∷ h .after) z = cut a d (h .parts) in
-        along (c .first) statement l ∙ on-token s (point a) n (c .place) t (next-token (c .then-rest)) ∙ rw (e, f) g
+        let k = so-far (c .first) l in
+        k .1 ∙ ap endOf (on-token s (point a) (k .0) n (c .place) t (next-token (c .then-rest))) ∙ rw (e, f, h .place)
 
-    four-is : (p : ℕ) → OneFourToken ts p → partAt s statement at ≡ stopped unexpected p
-    four-is p (a, t, h, o, n, bad, nor) =
-        at-token a t p h (alive a o) (still-open a n) true true (dead-after a t bad) (dead-after a (real t) nor) _ (ap (stopped unexpected) (h .place))
+    four-is : (p : ℕ) → OneFourToken ts p → ends statement tt at ≡ refused unexpected p
+    four-is p (a, t, h, o, n, bad, nor) = at-token a t p h (alive a o) (still-open a n) (dead-after a t bad) true (dead-after a (real t) nor)
 
-    five-is : (p : ℕ) → OneFive ts p → partAt s statement at ≡ stopped notReal p
+    five-is : (p : ℕ) → OneFive ts p → ends statement tt at ≡ refused notReal p
     five-is p (a, t, h, may, bad) =
         let l : isPoint (step (point a) (shape (t .class))) dead ≡ false = ap (λ (q : Point). isPoint q dead) (sym (point-append a (real t))) ∙ alive (a ++ (real t ∷ [])) may in
-        at-token a t p h (elsewhere (point a) dead (shape (t .class) ∷ []) refl l) (elsewhere (point a) done (shape (t .class) ∷ []) refl l) true false (dead-after a t bad) l _ (ap (stopped notReal) (h .place))
+        at-token a t p h (elsewhere (point a) dead (shape (t .class) ∷ []) refl l) (elsewhere (point a) done (shape (t .class) ∷ []) refl l) (dead-after a t bad) false l
 
-    pub says-one : (x : Part) → Judged s at ts z x → partAt s statement at ≡ x
+    pub says-one : (x : Result ℕ) → Judged s at ts z x → endOf (readFrom 0 s statement tt at) ≡ x
     says-one x (read {e = e} o) = whole-is e o
     says-one x (three {p = p} r) = none-is p r
     says-one x (four-end {p = p} r) = end-is p r
@@ -167,35 +195,55 @@ module _ (s : List ℕ) where
     one-more a t ts = append-assoc a (t ∷ []) ts
 
     -- a token, by what it leads to
-    module _ (a : List Placed) (t : Placed) (us : List Placed) (z : Last) (l : isPoint (point a) dead ≡ false) (n : isPoint (point a) done ≡ false) where
-      token : (isPoint (step (point a) (t .class)) dead ≡ false → Judged s at (a ++ (t ∷ us)) z (partAt s (step (point a) (t .class)) (t .end))) → (x y : Bool) → isPoint (step (point a) (t .class)) dead ≡ x → isPoint (step (point a) (shape (t .class))) dead ≡ y → Judged s at (a ++ (t ∷ us)) z (cond x (cond y (stopped unexpected (t .place)) (stopped notReal (t .place))) (partAt s (step (point a) (t .class)) (t .end)))
-      token later false y p q = later p
-      token later true true p q =
-          four-token (a, t, here-stands a t us, opens a l, not-whole a n, not-opens (a ++ (t ∷ [])) (ap (λ (r : Point). isPoint r dead) (point-append a t) ∙ p), not-opens (a ++ (real t ∷ [])) (ap (λ (r : Point). isPoint r dead) (point-append a (real t)) ∙ q))
-      token later true false p q =
-          five (a, t, here-stands a t us, opens (a ++ (real t ∷ [])) (ap (λ (r : Point). isPoint r dead) (point-append a (real t)) ∙ q), not-opens (a ++ (t ∷ [])) (ap (λ (r : Point). isPoint r dead) (point-append a t) ∙ p))
+    module _ (a : List Placed) (t : Placed) (us : List Placed) (z : Last) (l : isPoint (point a) dead ≡ false) (n : isPoint (point a) done ≡ false) (later : StatementRead) where
+      token : (isPoint (step (point a) (t .class)) dead ≡ false → Judged s at (a ++ (t ∷ us)) z (endOf later)) → (x y : Bool)
+          → isPoint (step (point a) (t .class)) dead ≡ x → isPoint (step (point a) (shape (t .class))) dead ≡ y
+          → Judged s at (a ++ (t ∷ us)) z (endOf (cond x (cond y (Refused (refusal unexpected (t .place))) (Refused (refusal notReal (t .place)))) later))
+      token goes false y p q = goes p
+      token goes true true p q =
+          four-token (
+            a,
+            t,
+            here-stands a t us,
+            opens a l,
+            not-whole a n,
+            not-opens (a ++ (t ∷ [])) (ap (λ (r : Point). isPoint r dead) (point-append a t) ∙ p),
+            not-opens (a ++ (real t ∷ [])) (ap (λ (r : Point). isPoint r dead) (point-append a (real t)) ∙ q),
+          )
+      token goes true false p q =
+          five (
+            a,
+            t,
+            here-stands a t us,
+            opens (a ++ (real t ∷ [])) (ap (λ (r : Point). isPoint r dead) (point-append a (real t)) ∙ q),
+            not-opens (a ++ (t ∷ [])) (ap (λ (r : Point). isPoint r dead) (point-append a t) ∙ p),
+          )
 
-    at-done : (i : ℕ) (a ts : List Placed) (z : Last) → After s at a i → point a ≡ done → Judged s at ts z (partAt s (point a) i)
-    at-done i a ts z f e = subst (λ (q : Point). Judged s at ts z (partAt s q i)) (sym e) (read (a, f, walked-any a e))
+    -- at `done` the statement is whole
+    unless-done : (i : ℕ) (a ts : List Placed) (z : Last) (h : Held (point a)) → After s at a i
+        → (isPoint (point a) done ≡ false → Judged s at ts z (ends (point a) h i)) → Judged s at ts z (ends (point a) h i)
+    unless-done i a ts z h f other = go (isPoint (point a) done) refl
+      where
+        go : (b : Bool) → isPoint (point a) done ≡ b → Judged s at ts z (ends (point a) h i)
+        go true e =
+            let p : point a ≡ done = is-point (point a) done e in
+            subst (Judged s at ts z) (sym (ends-whole (point a) h i p)) (read (a, f, walked-any a p))
+        go false e = other e
 
-    judge : {i : ℕ} {ts : List Placed} {z : Last} → Tokens s i ts z → (a : List Placed) → After s at a i → isPoint (point a) dead ≡ false → Judged s at (a ++ ts) z (partAt s (point a) i)
-    judge {i} (at-end {p = p} x) a f l = go (isPoint (point a) done) refl
-      where
-        go : (b : Bool) → isPoint (point a) done ≡ b → Judged s at (a ++ []) (end p) (partAt s (point a) i)
-        go true e = at-done i a (a ++ []) (end p) f (is-point (point a) done e)
-        go false n = rw (on-end s (point a) n i p x, append-nil a) (four-end (opens a l, not-whole a n, refl))
-    judge {i} (no-token {p = p} x) a f l = go (isPoint (point a) done) refl
-      where
-        go : (b : Bool) → isPoint (point a) done ≡ b → Judged s at (a ++ []) (broken p) (partAt s (point a) i)
-        go true e = at-done i a (a ++ []) (broken p) f (is-point (point a) done e)
-        go false n = rw (on-none s (point a) n i p x, append-nil a) (three (opens a l, not-whole a n, refl))
-    judge {i} {z = z} (and-then {t = t} {ts = us} x r) a f l = go (judge r (a ++ (t ∷ [])) (after-more f x)) (isPoint (point a) done) refl
-      where
-        go : (isPoint (point (a ++ (t ∷ []))) dead ≡ false → Judged s at ((a ++ (t ∷ [])) ++ us) z (partAt s (point (a ++ (t ∷ []))) (t .end))) → (c : Bool) → isPoint (point a) done ≡ c → Judged s at (a ++ (t ∷ us)) z (partAt s (point a) i)
-        go later true e = at-done i a (a ++ (t ∷ us)) z f (is-point (point a) done e)
-        go later false n =
-            subst (Judged s at (a ++ (t ∷ us)) z) (sym (on-token s (point a) n i t x))
-            (token a t us z l n (λ p. rw (one-more a t us, point-append a t) at (later (ap (λ (q : Point). isPoint q dead) (point-append a t) ∙ p))) (isPoint (step (point a) (t .class)) dead) (isPoint (step (point a) (shape (t .class))) dead) refl refl)
+    judge : {i : ℕ} {ts : List Placed} {z : Last} → Tokens s i ts z → (a : List Placed) → After s at a i → (h : Held (point a)) → isPoint (point a) dead ≡ false
+        → Judged s at (a ++ ts) z (ends (point a) h i)
+    judge {i} (at-end {p = p} x) a f h l =
+        unless-done i a (a ++ []) (end p) h f (λ n. rw (on-end s (point a) h n i p x, append-nil a) (four-end (opens a l, not-whole a n, refl)))
+    judge {i} (no-token {p = p} x) a f h l =
+        unless-done i a (a ++ []) (broken p) h f (λ n. rw (on-none s (point a) h n i p x, append-nil a) (three (opens a l, not-whole a n, refl)))
+    judge {i} {z = z} (and-then {t = t} {ts = us} x r) a f h l =
+        let k : Held (step (point a) (t .class)) = after (point a) (t .class) (next (point a)) (adds (point a)) (itemAt 0 s i) h in
+        let later : (y : Held (point (a ++ (t ∷ [])))) → isPoint (point (a ++ (t ∷ []))) dead ≡ false → Judged s at (a ++ (t ∷ us)) z (ends (point (a ++ (t ∷ []))) y (t .end)) =
+        λ y m. rw (one-more a t us) at (judge r (a ++ (t ∷ [])) (after-more f x) y m) in
+        let goes : (y : Held (step (point a) (t .class))) → isPoint (step (point a) (t .class)) dead ≡ false → Judged s at (a ++ (t ∷ us)) z (ends (step (point a) (t .class)) y (t .end)) =
+        subst (λ (q : Point). (y : Held q) → isPoint q dead ≡ false → Judged s at (a ++ (t ∷ us)) z (ends q y (t .end))) (point-append a t) later in
+        unless-done i a (a ++ (t ∷ us)) z h f
+        (λ n. subst (λ (v : StatementRead). Judged s at (a ++ (t ∷ us)) z (endOf v)) (sym (on-token s (point a) h n i t x)) (token a t us z l n _ (goes k) _ _ refl refl))
 
-    pub one-says : {ts : List Placed} {z : Last} → Tokens s at ts z → Judged s at ts z (partAt s statement at)
-    one-says d = judge d [] here refl
+    pub one-says : {ts : List Placed} {z : Last} → Tokens s at ts z → Judged s at ts z (endOf (readFrom 0 s statement tt at))
+    one-says d = judge d [] here tt refl

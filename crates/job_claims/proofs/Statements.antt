@@ -1,5 +1,5 @@
 -- Demand 2 for one statement: `readStatement`, which the contract of `job::read_statement` cites, gives an answer exactly when document 01
--- says so. `ts` are the file's tokens from the offset on, and `z` ends them. Assumes nothing.
+-- says so. `ts` are the file's tokens from the offset on, and `z` ends them.
 use Prim.Native.Nat.{ℕ, _≤_, _<_}
 use mathlib.Core.Path.{_≡_, refl, sym, _∙_, ap, subst, subst₂}
 use mathlib.Core.Bool.{Bool, true, false, true≢false, cond}
@@ -22,14 +22,11 @@ use Rattle.grammar.proofs.Points.{any-walks}
 use Rattle.item.specs.Tokens.{lineAt}
 use Rattle.item.proofs.Lines.{tokens-at}
 use Rattle.item.specs.Items.{itemAt}
-use Rattle.statement.specs.Statement.{statementOf}
+use Rattle.statement.specs.Statement.{readFrom, statementOf}
 use Rattle.statement.specs.declared.Statement.{Statement}
 use Rattle.statement.specs.declared.StatementRead.{StatementRead}
 use Rattle.statement.specs.declared.StatementRead.the-variants.{Is, Refused}
-use Rattle.statement.proofs.Plain.{Part, partAt}
-use Rattle.statement.proofs.Plain.Part.{whole, stopped}
-use Rattle.statement.proofs.Forget.{forget}
-use Rattle.statement.proofs.Words.{statement-is}
+use Rattle.statement.proofs.Along.{any-kind}
 use Rattle.statement.proofs.From.{statement-from}
 use Rattle.meaning.proofs.Lossless.{one-statement}
 use Rattle.meaning.specs.Paper.{paperStatement}
@@ -38,7 +35,7 @@ use Rattle.job.specs.declared.StatementAt.{StatementAt}
 use Rattle.job_claims.specs.Rows.{WholeOne, One, OneThree, OneFourEnd, OneFourToken, OneFive}
 use Rattle.job_claims.proofs.Places.{broken-within, end-within, token-within}
 use Rattle.job_claims.proofs.Tiles.{same-read, ReadsOne, reads-one}
-use Rattle.job_claims.proofs.One.{Judged, says-one, one-says}
+use Rattle.job_claims.proofs.One.{endOf, Judged, says-one, one-says}
 use Rattle.job_claims.proofs.One.Judged.{read, three, four-end, four-token, five}
 
 -- an answer without the statement's values: the place after its `;`, or the refusal
@@ -46,12 +43,7 @@ abbrev ends : Result StatementAt → Result ℕ
 ends (done x) = done (x .next)
 ends (refused n p) = refused n p
 
-unfoldable ofPart : Part → Result ℕ
-ofPart (whole e) = done e
-ofPart (stopped n p) = refused n p
-
-of-read : (p : ℕ) (r : StatementRead) → ends (onRead p r) ≡ ofPart (forget r)
-unfolding ofPart
+of-read : (p : ℕ) (r : StatementRead) → ends (onRead p r) ≡ endOf r
 of-read p (Is x e) = refl
 of-read p (Refused r) = refl
 
@@ -73,19 +65,17 @@ module _ (s : List ℕ) (at : ℕ) where
   data Verdict : Result ℕ → Type 0 where
     too-long : fileBytes < length s → Verdict (refused fileTooLong 0)
     past : length s ≤ fileBytes → length s < at → Verdict (refused outOfRange 0)
-    not-read : {n p : ℕ} → length s ≤ fileBytes → at ≤ length s → Judged s at ts z (stopped n p) → Verdict (refused n p)
-    is-read : {e : ℕ} → length s ≤ fileBytes → at ≤ length s → Judged s at ts z (whole e) → Verdict (done e)
+    not-read : {n p : ℕ} → length s ≤ fileBytes → at ≤ length s → Judged s at ts z (refused n p) → Verdict (refused n p)
+    is-read : {e : ℕ} → length s ≤ fileBytes → at ≤ length s → Judged s at ts z (done e) → Verdict (done e)
 
-  in-part : at ≤ length s → ends (statementIn at (drop at s)) ≡ ofPart (partAt s statement at)
+  in-part : at ≤ length s → ends (statementIn at (drop at s)) ≡ endOf (readFrom 0 s statement tt at)
   in-part l =
       of-read (itemAt at (drop at s) at .place) (statementOf at (drop at s) (itemAt at (drop at s) at))
-      ∙ ap (λ (r : StatementRead). ofPart (forget r)) (statement-from at s l at (omega arith))
-      ∙ ap ofPart (statement-is s at)
+      ∙ ap endOf (statement-from at s l at (omega arith) ∙ any-kind s at)
 
-  judged : length s ≤ fileBytes → at ≤ length s → (x : Part) → Judged s at ts z x → Verdict (ofPart x)
-  unfolding ofPart
-  judged l m (whole e) j = is-read l m j
-  judged l m (stopped n p) j = not-read l m j
+  judged : length s ≤ fileBytes → at ≤ length s → (x : Result ℕ) → Judged s at ts z x → Verdict x
+  judged l m (done e) j = is-read l m j
+  judged l m (refused n p) j = not-read l m j
 
   given : Verdict (ends (readStatement s at))
   unfolding readStatement
@@ -94,14 +84,14 @@ module _ (s : List ℕ) (at : ℕ) where
       go : (a : Bool) → leb (length s) fileBytes ≡ a → (b : Bool) → leb at (length s) ≡ b → Verdict (ends (cond a (cond b (statementIn at (drop at s)) (refused outOfRange 0)) (refused fileTooLong 0)))
       go false e b f = too-long (leb-false _ _ e)
       go true e false f = past (leb-true _ _ e) (leb-false _ _ f)
-      go true e true f = subst Verdict (sym (in-part (leb-true _ _ f))) (judged (leb-true _ _ e) (leb-true _ _ f) (partAt s statement at) (one-says s at (tokens-at s at)))
+      go true e true f = subst Verdict (sym (in-part (leb-true _ _ f))) (judged (leb-true _ _ e) (leb-true _ _ f) (endOf (readFrom 0 s statement tt at)) (one-says s at (tokens-at s at)))
 
   only : (v : Result ℕ) → Verdict v → ends (readStatement s at) ≡ v
-  unfolding readStatement ofPart
+  unfolding readStatement
   only v (too-long l) = rw (lt-leb _ _ l)
   only v (past l m) = rw (le-leb _ _ l, lt-leb _ _ m)
-  only v (not-read l m j) = rw (le-leb _ _ l, le-leb _ _ m) (in-part m ∙ ap ofPart (says-one s at ts z (tokens-at s at) _ j))
-  only v (is-read l m j) = rw (le-leb _ _ l, le-leb _ _ m) (in-part m ∙ ap ofPart (says-one s at ts z (tokens-at s at) _ j))
+  only v (not-read l m j) = rw (le-leb _ _ l, le-leb _ _ m) (in-part m ∙ says-one s at ts z (tokens-at s at) _ j)
+  only v (is-read l m j) = rw (le-leb _ _ l, le-leb _ _ m) (in-part m ∙ says-one s at ts z (tokens-at s at) _ j)
 
   asked : {n p : ℕ} → readStatement s at ≡ refused n p → Verdict (refused n p)
   asked e = subst Verdict (ap ends e) given
@@ -165,7 +155,7 @@ module _ (s : List ℕ) (at : ℕ) where
       from (not-read l m (four-token r)) = (l, m, inl r)
       from (not-read l m (four-end r)) = (l, m, inr r)
 
-      to : OneFourToken (lineAt s at .tokens) p ⊎ OneFourEnd (lineAt s at .tokens) (lineAt s at .last) p → Judged s at ts z (stopped unexpected p)
+      to : OneFourToken (lineAt s at .tokens) p ⊎ OneFourEnd (lineAt s at .tokens) (lineAt s at .last) p → Judged s at ts z (refused unexpected p)
       to (inl r) = four-token r
       to (inr r) = four-end r
 

@@ -1,6 +1,4 @@
 pub mod Values
-pub mod Plain
-pub mod Bridge
-pub mod Forget
-pub mod Words
+pub mod Along
 pub mod From
+pub mod Bridge

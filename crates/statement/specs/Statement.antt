@@ -1,14 +1,15 @@
--- What a statement reads as (document 01, "The job grammar"): a word for each point of a statement, as code has a function for each. The
--- bytes s are those of the file from the place base on, and places are counted from the file's start. Need not be believed: what the productions
--- read, these words read (`meaning`), and they refuse where 01's rows say (`job_claims`).
-use Prim.Native.Nat.{ℕ}
-use mathlib.Core.Bool.{Bool, true, false, cond, _&&_, _||_}
+-- What a statement reads as (document 01, "The job grammar"): along the points of the grammar's table, where each token adds something to what
+-- is held of the statement. The bytes s are those of the file from the place base on, and places are counted from the file's start. Need not be
+-- believed: what the productions read is read so (`meaning`), and it is refused where 01's rows say (`job_claims`).
+use Prim.Native.Nat.{ℕ, zero, suc}
+use mathlib.Core.Bool.{Bool, true, false, cond, not, _&&_, _||_}
 use mathlib.Core.List.{List, [], _∷_}
 use lib.Dec.{eqb}
 use Rattle.counts.specs.Refusals.{noToken, unexpected, notReal, refusal}
 use Rattle.token.specs.declared.Operator.{Operator}
-use Rattle.grammar.specs.Grammar.{Class, classNo, isClass}
-use Rattle.grammar.specs.Grammar.Class.{JOB, RESPONSE, UPLOAD, DOWNLOAD, GETINFO, ABORT, REPORT, EVENT, START, ACTIVE, IMMEDIATE, name, TIME≥, number, date, unrealDate, time, unrealTime, string, operator, semicolon}
+use Rattle.grammar.specs.Grammar.{Class, Point, Edge, Each, next, step, classNo, isPoint}
+use Rattle.grammar.specs.Grammar.Class.{number, date, unrealDate, time, unrealTime}
+use Rattle.grammar.specs.Grammar.Point.{first, between, statement, jobName, jobResponse, jobFile, moveFile, moveSource, moveStart, startKind, startTime, startDate, startOperator, startValue, infoFile, abortKind, abortName, ending, done, dead}
 use Rattle.item.specs.Items.{noneNo, itemAt}
 use Rattle.item.specs.declared.Item.{Item}
 use Rattle.statement.specs.declared.Part.{Part}
@@ -27,6 +28,8 @@ use Rattle.statement.specs.declared.Transfer.{Transfer}
 use Rattle.statement.specs.declared.StatementRead.{StatementRead}
 use Rattle.statement.specs.declared.StatementRead.the-variants.{Is, Refused}
 
+-- ---- what is refused
+
 -- "A token's place is its first byte"
 abbrev pub no : ℕ → Item → StatementRead
 no n t = Refused (refusal n (t .place))
@@ -35,32 +38,17 @@ no n t = Refused (refusal n (t .place))
 abbrev pub unexpectedAt : Item → StatementRead
 unexpectedAt t = cond (eqb (t .class) noneNo) (no noToken t) (no unexpected t)
 
--- a class that may stand, and what is read after it
-pub record Branch : Type 0 where
-  pub class : Class
-  pub go : Item → StatementRead
+-- the class may stand at the point
+abbrev pub may : Point → Class → Bool
+may q c = not (isPoint (step q c) dead)
 
-abbrev pub or : Class → (Item → StatementRead) → List Branch → List Branch
-or c k bs = record { class = c; go = k } ∷ bs
+-- a token whose class may not stand at the point; 5: "right shape of time or date where one may stand, but not a real one"
+abbrev pub otherwise : Point → Item → StatementRead
+otherwise q t =
+    cond (may q time && eqb (t .class) (classNo unrealTime)) (no notReal t)
+    (cond (may q date && eqb (t .class) (classNo unrealDate)) (no notReal t) (unexpectedAt t))
 
-abbrev pub has : Class → List Branch → Bool
-has c [] = false
-has c (x ∷ bs) = cond (isClass c (x .class)) true (has c bs)
-
--- the branch of the token's class, or else what is refused
-abbrev pub pick : Item → List Branch → StatementRead → StatementRead
-pick t [] r = r
-pick t (x ∷ bs) r = cond (eqb (t .class) (classNo (x .class))) (x .go t) (pick t bs r)
-
--- 5: "right shape of time or date where one may stand, but not a real one"
-abbrev pub otherwise : Item → List Branch → StatementRead
-otherwise t bs =
-    cond (has time bs && eqb (t .class) (classNo unrealTime)) (no notReal t)
-    (cond (has date bs && eqb (t .class) (classNo unrealDate)) (no notReal t) (unexpectedAt t))
-
--- one of the classes must stand
-abbrev pub onItem : List Branch → Item → StatementRead
-onItem bs t = pick t bs (otherwise t bs)
+-- ---- what is held
 
 abbrev pub partOf : Item → Part
 partOf t = record { place = t .place; length = t .length }
@@ -79,85 +67,97 @@ transferred m start = cond (m .download) (Download (m .file) (m .source) start) 
 abbrev pub transfer : Bool → ℕ → Source → Transfer
 transfer down file source = record { download = down; file = file; source = source }
 
+-- of a statement that is not whole, at each of its points
+abbrev pub Begun : Point → Type 0
+Begun first = Unit {0}
+Begun between = Unit {0}
+Begun statement = Unit {0}
+Begun jobName = Unit {0}
+Begun jobResponse = Part
+Begun jobFile = Part
+Begun moveFile = Bool
+Begun moveSource = Bool × ℕ
+Begun moveStart = Transfer
+Begun startKind = Transfer
+Begun startTime = Transfer
+Begun startDate = Transfer × ℕ
+Begun startOperator = Transfer × Part
+Begun startValue = Transfer × Part × Operator
+Begun infoFile = Unit {0}
+Begun abortKind = Unit {0}
+Begun abortName = Aborted
+Begun ending = Statement
+Begun done = Unit {0}
+Begun dead = Unit {0}
+
+abbrev pub Held : Point → Type 0
+Held q = cond (isPoint q done) Statement (Begun q)
+
+-- what a token adds on its way along an edge
+abbrev pub Adds : Point → Edge → Type 0
+Adds q e = Item → Held q → Held (e .to)
+
+-- a number or a string, as the last of a condition
+abbrev valued : (Item → Operand) → Item → Transfer × Part × Operator → Statement
+valued v t (m, n, o) = transferred m (condition n o (v t))
+
+-- in the order of the edges
+abbrev pub adds : (q : Point) → Each (Adds q) (next q)
+adds first = (λ t h. tt, tt)
+adds between = (λ t h. false, (λ t h. true, (λ t h. tt, (λ t h. tt, tt))))
+adds statement = (λ t h. tt, (λ t h. false, (λ t h. true, (λ t h. tt, (λ t h. tt, tt)))))
+adds jobName = (λ t h. partOf t, tt)
+adds jobResponse = (λ t n. n, tt)
+adds jobFile = (λ t n. Job n (t .place), tt)
+adds moveFile = (λ t down. (down, t .place), tt)
+adds moveSource = (
+  λ t h. transfer (h .0) (h .1) Active,
+  (λ t h. transfer (h .0) (h .1) (File (t .place)), (λ t h. transfer (h .0) (h .1) (Name (partOf t)), tt)),
+)
+-- "A missing clause reads as START IMMEDIATE"
+adds moveStart = (λ t m. m, (λ t m. transferred m Immediate, tt))
+adds startKind = (λ t m. transferred m Immediate, (λ t m. m, (λ t m. (m, partOf t), tt)))
+adds startTime = (λ t m. (m, t .value), tt)
+adds startDate = (λ t h. transferred (h .0) (At (h .1) (On (t .value))), (λ t h. transferred (h .0) (At (h .1) Any), tt))
+adds startOperator = (λ t h. (h .0, h .1, t .operator), tt)
+adds startValue = (
+  valued (λ t. Number (t .number)),
+  (valued (λ t. Number (t .number)), (valued (λ t. Number (t .number)), (valued (λ t. Text (t .place)), tt))),
+)
+adds infoFile = (λ t h. GetInfo (t .place), tt)
+adds abortKind = (λ t h. Report, (λ t h. Event, tt))
+adds abortName = (λ t what. Abort what (partOf t), tt)
+adds ending = (λ t x. x, tt)
+adds done = tt
+adds dead = tt
+
+-- ---- the reading
+
+-- along the edge of the token's class, or else what is refused
+abbrev pub pick : (q : Point) (es : List Edge) → Each (Adds q) es → Item → Held q → ((p : Point) → Held p → StatementRead) → StatementRead → StatementRead
+pick q [] ws t h k r = r
+pick q (e ∷ es) ws t h k r = cond (eqb (t .class) (classNo (e .class))) (k (e .to) (ws .0 t h)) (pick q es (ws .1) t h k r)
+
+-- the token t at the point q, and the rest by k
+abbrev pub onItem : (q : Point) → Held q → Item → ((p : Point) → Held p → StatementRead) → StatementRead
+onItem q h t k = pick q (next q) (adds q) t h k (otherwise q t)
+
+-- a statement is whole after its `;`
+abbrev pub orWhole : (A : Type 0) (b : Bool) → cond b Statement A → ℕ → StatementRead → StatementRead
+orWhole A true x at r = Is x at
+orWhole A false h at r = r
+
 module _ (base : ℕ) (s : List ℕ) where
-  unfoldable pub oneOf : ℕ → List Branch → StatementRead
-  oneOf at bs = onItem bs (itemAt base s at)
+  -- the rest of a statement from the point q on, of at most n tokens
+  unfoldable pub readWithin : ℕ → (q : Point) → Held q → ℕ → StatementRead
+  readWithin zero q h at = orWhole (Begun q) (isPoint q done) h at (no unexpected (itemAt base s at))
+  readWithin (suc n) q h at =
+      orWhole (Begun q) (isPoint q done) h at (onItem q h (itemAt base s at) (λ p k. readWithin n p k (itemAt base s at .next)))
 
-  -- "each ended by `;`"
-  unfoldable pub ending : Statement → ℕ → StatementRead
-  ending x at = oneOf at (or semicolon (λ t. Is x (t .next)) [])
-
-  -- "JOB, name, RESPONSE, file spec."
-  unfoldable pub jobFile : Part → ℕ → StatementRead
-  jobFile n at = oneOf at (or string (λ t. ending (Job n (t .place)) (t .next)) [])
-
-  unfoldable pub jobResponse : Part → ℕ → StatementRead
-  jobResponse n at = oneOf at (or RESPONSE (λ t. jobFile n (t .next)) [])
-
-  unfoldable pub jobName : ℕ → StatementRead
-  jobName at = oneOf at (or name (λ t. jobResponse (partOf t) (t .next)) [])
-
-  -- "A start clause is one of three: START IMMEDIATE; START `TIME>=` time with an optional date; START name, operator, then number or
-  -- string."
-  module _ (m : Transfer) where
-    unfoldable pub startValue : Part → Operator → ℕ → StatementRead
-    startValue n o at =
-        let v : Item → StatementRead = λ t. ending (transferred m (condition n o (Number (t .number)))) (t .next) in
-        oneOf at
-        (or number v (or date v (or unrealDate v (or string (λ t. ending (transferred m (condition n o (Text (t .place)))) (t .next)) []))))
-
-    unfoldable pub startOperator : Part → ℕ → StatementRead
-    startOperator n at = oneOf at (or operator (λ t. startValue n (t .operator) (t .next)) [])
-
-    unfoldable pub startDate : ℕ → ℕ → StatementRead
-    startDate clock at =
-        oneOf at
-        (or date (λ t. ending (transferred m (At clock (On (t .value)))) (t .next))
-        (or semicolon (λ t. Is (transferred m (At clock Any)) (t .next)) []))
-
-    unfoldable pub startTime : ℕ → StatementRead
-    startTime at = oneOf at (or time (λ t. startDate (t .value) (t .next)) [])
-
-    unfoldable pub startKind : ℕ → StatementRead
-    startKind at =
-        oneOf at
-        (or IMMEDIATE (λ t. ending (transferred m Immediate) (t .next))
-        (or TIME≥ (λ t. startTime (t .next)) (or name (λ t. startOperator (partOf t) (t .next)) [])))
-
-    -- "A missing clause reads as START IMMEDIATE"
-    unfoldable pub moveStart : ℕ → StatementRead
-    moveStart at =
-        oneOf at (or START (λ t. startKind (t .next)) (or semicolon (λ t. Is (transferred m Immediate) (t .next)) []))
-
-  -- "UPLOAD or DOWNLOAD, file spec, then ACTIVE or a file spec or a name, then an optional start clause."
-  unfoldable pub moveSource : Bool → ℕ → ℕ → StatementRead
-  moveSource down file at =
-      oneOf at
-      (or ACTIVE (λ t. moveStart (transfer down file Active) (t .next))
-      (or string (λ t. moveStart (transfer down file (File (t .place))) (t .next))
-      (or name (λ t. moveStart (transfer down file (Name (partOf t))) (t .next)) [])))
-
-  unfoldable pub moveFile : Bool → ℕ → StatementRead
-  moveFile down at = oneOf at (or string (λ t. moveSource down (t .place) (t .next)) [])
-
-  -- "GETINFO, file spec."
-  unfoldable pub infoFile : ℕ → StatementRead
-  infoFile at = oneOf at (or string (λ t. ending (GetInfo (t .place)) (t .next)) [])
-
-  -- "ABORT, then REPORT or EVENT, then a name."
-  unfoldable pub abortName : Aborted → ℕ → StatementRead
-  abortName what at = oneOf at (or name (λ t. ending (Abort what (partOf t)) (t .next)) [])
-
-  unfoldable pub abortKind : ℕ → StatementRead
-  abortKind at = oneOf at (or REPORT (λ t. abortName Report (t .next)) (or EVENT (λ t. abortName Event (t .next)) []))
-
-  -- the kinds of statement
-  abbrev pub kinds : List Branch
-  kinds =
-      or JOB (λ t. jobName (t .next))
-      (or UPLOAD (λ t. moveFile false (t .next))
-      (or DOWNLOAD (λ t. moveFile true (t .next)) (or GETINFO (λ t. infoFile (t .next)) (or ABORT (λ t. abortKind (t .next)) []))))
+  -- a statement has at most 8 tokens
+  unfoldable pub readFrom : (q : Point) → Held q → ℕ → StatementRead
+  readFrom q h at = readWithin 8 q h at
 
   -- a statement of any kind, from its first token on
   unfoldable pub statementOf : Item → StatementRead
-  statementOf t = onItem kinds t
+  statementOf t = onItem statement tt t (λ p k. readFrom p k (t .next))

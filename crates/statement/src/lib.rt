@@ -31,7 +31,8 @@ use number::Number;
 use token::Operator;
 ghost use mathlib.Core.Path.{_≡_};
 ghost use Rattle.item.specs.Items.{Seen};
-ghost use Rattle.statement.specs.Statement.{no, unexpectedAt, partOf, condition, transferred, transfer, ending, jobFile, jobResponse, jobName, isNumberNo, startValue, startOperator, startDate, startTime, startKind, moveStart, moveSource, moveFile, infoFile, abortName, abortKind, statementOf};
+ghost use Rattle.grammar.specs.Grammar.Point.{ending, jobName, jobResponse, jobFile, moveFile, moveSource, moveStart, startKind, startTime, startDate, startOperator, startValue, infoFile, abortKind, abortName};
+ghost use Rattle.statement.specs.Statement.{no, unexpectedAt, partOf, condition, transferred, transfer, isNumberNo, readFrom, statementOf};
 
 // A part of the file: the place of its first byte, and its length. A name is held so.
 pub struct Part {
@@ -184,7 +185,7 @@ fn transfer_of(download: bool, file: usize, source: Source) -> Transfer
 // The ; that ends a statement.
 fn ending(s: &[u8], base: usize, at: usize, x: Statement) -> StatementRead
     requires { ⌜ Seen base (now s) at ⌝ }
-    ensures { λ r. ⌜ r ≡ ending base (now (s .entry)) x at ⌝ }
+    ensures { λ r. ⌜ r ≡ readFrom base (now (s .entry)) ending x at ⌝ }
 {
     let t = next_item(s, base, at);
     if t.class == SEMICOLON {
@@ -196,7 +197,7 @@ fn ending(s: &[u8], base: usize, at: usize, x: Statement) -> StatementRead
 // JOB, name, RESPONSE: the file spec.
 fn job_file(s: &[u8], base: usize, at: usize, name: Part) -> StatementRead
     requires { ⌜ Seen base (now s) at ⌝ }
-    ensures { λ r. ⌜ r ≡ jobFile base (now (s .entry)) name at ⌝ }
+    ensures { λ r. ⌜ r ≡ readFrom base (now (s .entry)) jobFile name at ⌝ }
 {
     let t = next_item(s, base, at);
     if t.class == STRING {
@@ -212,7 +213,7 @@ fn job_file(s: &[u8], base: usize, at: usize, name: Part) -> StatementRead
 // JOB, name: RESPONSE.
 fn job_response(s: &[u8], base: usize, at: usize, name: Part) -> StatementRead
     requires { ⌜ Seen base (now s) at ⌝ }
-    ensures { λ r. ⌜ r ≡ jobResponse base (now (s .entry)) name at ⌝ }
+    ensures { λ r. ⌜ r ≡ readFrom base (now (s .entry)) jobResponse name at ⌝ }
 {
     let t = next_item(s, base, at);
     if t.class == RESPONSE {
@@ -224,7 +225,7 @@ fn job_response(s: &[u8], base: usize, at: usize, name: Part) -> StatementRead
 // JOB: its name.
 fn job_name(s: &[u8], base: usize, at: usize) -> StatementRead
     requires { ⌜ Seen base (now s) at ⌝ }
-    ensures { λ r. ⌜ r ≡ jobName base (now (s .entry)) at ⌝ }
+    ensures { λ r. ⌜ r ≡ readFrom base (now (s .entry)) jobName tt at ⌝ }
 {
     let t = next_item(s, base, at);
     if t.class == NAME {
@@ -250,7 +251,7 @@ fn start_value(
     o: Operator,
 ) -> StatementRead
     requires { ⌜ Seen base (now s) at ⌝ }
-    ensures { λ r. ⌜ r ≡ startValue base (now (s .entry)) m name o at ⌝ }
+    ensures { λ r. ⌜ r ≡ readFrom base (now (s .entry)) startValue (m, name, o) at ⌝ }
 {
     let t = next_item(s, base, at);
     if is_number(t.class) {
@@ -268,7 +269,7 @@ fn start_value(
 // START name: the operator.
 fn start_operator(s: &[u8], base: usize, at: usize, m: Transfer, name: Part) -> StatementRead
     requires { ⌜ Seen base (now s) at ⌝ }
-    ensures { λ r. ⌜ r ≡ startOperator base (now (s .entry)) m name at ⌝ }
+    ensures { λ r. ⌜ r ≡ readFrom base (now (s .entry)) startOperator (m, name) at ⌝ }
 {
     let t = next_item(s, base, at);
     if t.class == OPERATOR {
@@ -281,7 +282,7 @@ fn start_operator(s: &[u8], base: usize, at: usize, m: Transfer, name: Part) -> 
 // START TIME>= time: an optional date.
 fn start_date(s: &[u8], base: usize, at: usize, m: Transfer, clock: u32) -> StatementRead
     requires { ⌜ Seen base (now s) at ⌝ }
-    ensures { λ r. ⌜ r ≡ startDate base (now (s .entry)) m clock at ⌝ }
+    ensures { λ r. ⌜ r ≡ readFrom base (now (s .entry)) startDate (m, clock) at ⌝ }
 {
     let t = next_item(s, base, at);
     if t.class == DATE {
@@ -300,7 +301,7 @@ fn start_date(s: &[u8], base: usize, at: usize, m: Transfer, clock: u32) -> Stat
 // START TIME>=: the time.
 fn start_time(s: &[u8], base: usize, at: usize, m: Transfer) -> StatementRead
     requires { ⌜ Seen base (now s) at ⌝ }
-    ensures { λ r. ⌜ r ≡ startTime base (now (s .entry)) m at ⌝ }
+    ensures { λ r. ⌜ r ≡ readFrom base (now (s .entry)) startTime m at ⌝ }
 {
     let t = next_item(s, base, at);
     if t.class == TIME {
@@ -315,7 +316,7 @@ fn start_time(s: &[u8], base: usize, at: usize, m: Transfer) -> StatementRead
 // START: what it waits for.
 fn start_kind(s: &[u8], base: usize, at: usize, m: Transfer) -> StatementRead
     requires { ⌜ Seen base (now s) at ⌝ }
-    ensures { λ r. ⌜ r ≡ startKind base (now (s .entry)) m at ⌝ }
+    ensures { λ r. ⌜ r ≡ readFrom base (now (s .entry)) startKind m at ⌝ }
 {
     let t = next_item(s, base, at);
     if t.class == IMMEDIATE {
@@ -333,7 +334,7 @@ fn start_kind(s: &[u8], base: usize, at: usize, m: Transfer) -> StatementRead
 // An optional start clause.
 fn move_start(s: &[u8], base: usize, at: usize, m: Transfer) -> StatementRead
     requires { ⌜ Seen base (now s) at ⌝ }
-    ensures { λ r. ⌜ r ≡ moveStart base (now (s .entry)) m at ⌝ }
+    ensures { λ r. ⌜ r ≡ readFrom base (now (s .entry)) moveStart m at ⌝ }
 {
     let t = next_item(s, base, at);
     if t.class == START {
@@ -348,7 +349,7 @@ fn move_start(s: &[u8], base: usize, at: usize, m: Transfer) -> StatementRead
 // UPLOAD or DOWNLOAD, file spec: ACTIVE or a file spec or a name.
 fn move_source(s: &[u8], base: usize, at: usize, download: bool, file: usize) -> StatementRead
     requires { ⌜ Seen base (now s) at ⌝ }
-    ensures { λ r. ⌜ r ≡ moveSource base (now (s .entry)) download file at ⌝ }
+    ensures { λ r. ⌜ r ≡ readFrom base (now (s .entry)) moveSource (download, file) at ⌝ }
 {
     let t = next_item(s, base, at);
     if t.class == ACTIVE {
@@ -376,7 +377,7 @@ fn move_source(s: &[u8], base: usize, at: usize, download: bool, file: usize) ->
 // UPLOAD or DOWNLOAD: the file spec.
 fn move_file(s: &[u8], base: usize, at: usize, download: bool) -> StatementRead
     requires { ⌜ Seen base (now s) at ⌝ }
-    ensures { λ r. ⌜ r ≡ moveFile base (now (s .entry)) download at ⌝ }
+    ensures { λ r. ⌜ r ≡ readFrom base (now (s .entry)) moveFile download at ⌝ }
 {
     let t = next_item(s, base, at);
     if t.class == STRING {
@@ -388,7 +389,7 @@ fn move_file(s: &[u8], base: usize, at: usize, download: bool) -> StatementRead
 // GETINFO: the file spec.
 fn info_file(s: &[u8], base: usize, at: usize) -> StatementRead
     requires { ⌜ Seen base (now s) at ⌝ }
-    ensures { λ r. ⌜ r ≡ infoFile base (now (s .entry)) at ⌝ }
+    ensures { λ r. ⌜ r ≡ readFrom base (now (s .entry)) infoFile tt at ⌝ }
 {
     let t = next_item(s, base, at);
     if t.class == STRING {
@@ -400,7 +401,7 @@ fn info_file(s: &[u8], base: usize, at: usize) -> StatementRead
 // ABORT, REPORT or EVENT: the name.
 fn abort_name(s: &[u8], base: usize, at: usize, what: Aborted) -> StatementRead
     requires { ⌜ Seen base (now s) at ⌝ }
-    ensures { λ r. ⌜ r ≡ abortName base (now (s .entry)) what at ⌝ }
+    ensures { λ r. ⌜ r ≡ readFrom base (now (s .entry)) abortName what at ⌝ }
 {
     let t = next_item(s, base, at);
     if t.class == NAME {
@@ -416,7 +417,7 @@ fn abort_name(s: &[u8], base: usize, at: usize, what: Aborted) -> StatementRead
 // ABORT: REPORT or EVENT.
 fn abort_kind(s: &[u8], base: usize, at: usize) -> StatementRead
     requires { ⌜ Seen base (now s) at ⌝ }
-    ensures { λ r. ⌜ r ≡ abortKind base (now (s .entry)) at ⌝ }
+    ensures { λ r. ⌜ r ≡ readFrom base (now (s .entry)) abortKind tt at ⌝ }
 {
     let t = next_item(s, base, at);
     if t.class == REPORT {

@@ -1,6 +1,7 @@
--- `statement::abort_kind` meets its contract. Assumes nothing.
-use Rattle.statement.specs.Statement.{oneOf, abortKind}
+-- `statement::abort_kind` meets its contract.
+use Rattle.grammar.specs.Grammar.Point.{abortKind}
 use Rattle.laws.proofs.Choose.{choose}
+use Rattle.statement.proofs.Along.{reads}
 use borrow.Author.Needs.{needs}
 use Rattle.statement.proofs.abort_kind.Statement.{statement}
 use Rattle.statement.proofs.abort_kind.Tie as tie
@@ -12,22 +13,19 @@ abort-name-requires : tie.Need-abort-name-requires
 abort-name-requires c κs = search needs
 
 returns : tie.Need-returns
-unfolding abortKind oneOf
-returns c = rw (← c .before .before .before .next-item .ensures .is) (search choose depth 9)
+returns c = reads abortKind _ _ _ _ (c .before .before .before .next-item .ensures .is) (search choose depth 9)
 
 abort-name-requires-2 : tie.Need-abort-name-requires-2
 abort-name-requires-2 c κs = search needs
 
 returns-2 : tie.Need-returns-2
-unfolding abortKind oneOf
-returns-2 c = rw (← c .before .before .before .before .before .next-item .ensures .is) (search choose depth 9)
+returns-2 c = reads abortKind _ _ _ _ (c .before .before .before .before .before .next-item .ensures .is) (search choose depth 9)
 
 unexpected-requires : tie.Need-unexpected-requires
 unexpected-requires c κs = search needs
 
 returns-3 : tie.Need-returns-3
-unfolding abortKind oneOf
-returns-3 c = rw (← c .before .before .before .before .before .next-item .ensures .is) (search choose depth 9)
+returns-3 c = reads abortKind _ _ _ _ (c .before .before .before .before .before .next-item .ensures .is) (search choose depth 9)
 
 pub abort-kind-spec : {M : Type 1} → statement M
 abort-kind-spec =

@@ -1,6 +1,7 @@
--- `statement::job_file` meets its contract. Assumes nothing.
-use Rattle.statement.specs.Statement.{oneOf, jobFile}
+-- `statement::job_file` meets its contract.
+use Rattle.grammar.specs.Grammar.Point.{jobFile}
 use Rattle.laws.proofs.Choose.{choose}
+use Rattle.statement.proofs.Along.{reads}
 use borrow.Author.Needs.{needs}
 use Rattle.statement.proofs.job_file.Statement.{statement}
 use Rattle.statement.proofs.job_file.Tie as tie
@@ -12,15 +13,13 @@ ending-requires : tie.Need-ending-requires
 ending-requires c κs = search needs
 
 returns : tie.Need-returns
-unfolding jobFile oneOf
-returns c = rw (← c .before .before .before .next-item .ensures .is) (search choose depth 9)
+returns c = reads jobFile _ _ _ _ (c .before .before .before .next-item .ensures .is) (search choose depth 9)
 
 unexpected-requires : tie.Need-unexpected-requires
 unexpected-requires c κs = search needs
 
 returns-2 : tie.Need-returns-2
-unfolding jobFile oneOf
-returns-2 c = rw (← c .before .before .before .next-item .ensures .is) (search choose depth 9)
+returns-2 c = reads jobFile _ _ _ _ (c .before .before .before .next-item .ensures .is) (search choose depth 9)
 
 pub job-file-spec : {M : Type 1} → statement M
 job-file-spec =

@@ -1,6 +1,7 @@
--- `statement::job_name` meets its contract. Assumes nothing.
-use Rattle.statement.specs.Statement.{oneOf, jobName}
+-- `statement::job_name` meets its contract.
+use Rattle.grammar.specs.Grammar.Point.{jobName}
 use Rattle.laws.proofs.Choose.{choose}
+use Rattle.statement.proofs.Along.{reads}
 use borrow.Author.Needs.{needs}
 use Rattle.statement.proofs.job_name.Statement.{statement}
 use Rattle.statement.proofs.job_name.Tie as tie
@@ -15,15 +16,13 @@ job-response-requires : tie.Need-job-response-requires
 job-response-requires c κs = search needs
 
 returns : tie.Need-returns
-unfolding jobName oneOf
-returns c = rw (← c .before .before .before .before .next-item .ensures .is, ← c .before .part-of .ensures) (search choose depth 9)
+returns c = reads jobName _ _ _ _ (c .before .before .before .before .next-item .ensures .is) (rw (← c .before .part-of .ensures) (search choose depth 9))
 
 unexpected-requires : tie.Need-unexpected-requires
 unexpected-requires c κs = search needs
 
 returns-2 : tie.Need-returns-2
-unfolding jobName oneOf
-returns-2 c = rw (← c .before .before .before .next-item .ensures .is) (search choose depth 9)
+returns-2 c = reads jobName _ _ _ _ (c .before .before .before .next-item .ensures .is) (search choose depth 9)
 
 pub job-name-spec : {M : Type 1} → statement M
 job-name-spec =

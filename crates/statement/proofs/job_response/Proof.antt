@@ -1,6 +1,7 @@
--- `statement::job_response` meets its contract. Assumes nothing.
-use Rattle.statement.specs.Statement.{oneOf, jobResponse}
+-- `statement::job_response` meets its contract.
+use Rattle.grammar.specs.Grammar.Point.{jobResponse}
 use Rattle.laws.proofs.Choose.{choose}
+use Rattle.statement.proofs.Along.{reads}
 use borrow.Author.Needs.{needs}
 use Rattle.statement.proofs.job_response.Statement.{statement}
 use Rattle.statement.proofs.job_response.Tie as tie
@@ -12,15 +13,13 @@ job-file-requires : tie.Need-job-file-requires
 job-file-requires c κs = search needs
 
 returns : tie.Need-returns
-unfolding jobResponse oneOf
-returns c = rw (← c .before .before .before .next-item .ensures .is) (search choose depth 9)
+returns c = reads jobResponse _ _ _ _ (c .before .before .before .next-item .ensures .is) (search choose depth 9)
 
 unexpected-requires : tie.Need-unexpected-requires
 unexpected-requires c κs = search needs
 
 returns-2 : tie.Need-returns-2
-unfolding jobResponse oneOf
-returns-2 c = rw (← c .before .before .before .next-item .ensures .is) (search choose depth 9)
+returns-2 c = reads jobResponse _ _ _ _ (c .before .before .before .next-item .ensures .is) (search choose depth 9)
 
 pub job-response-spec : {M : Type 1} → statement M
 job-response-spec =

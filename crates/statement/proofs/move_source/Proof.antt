@@ -1,6 +1,7 @@
--- `statement::move_source` meets its contract. Assumes nothing.
-use Rattle.statement.specs.Statement.{oneOf, moveSource}
+-- `statement::move_source` meets its contract.
+use Rattle.grammar.specs.Grammar.Point.{moveSource}
 use Rattle.laws.proofs.Choose.{choose}
+use Rattle.statement.proofs.Along.{reads}
 use borrow.Author.Needs.{needs}
 use Rattle.statement.proofs.move_source.Statement.{statement}
 use Rattle.statement.proofs.move_source.Tie as tie
@@ -15,8 +16,7 @@ move-start-requires : tie.Need-move-start-requires
 move-start-requires c κs = search needs
 
 returns : tie.Need-returns
-unfolding moveSource oneOf
-returns c = rw (← c .before .before .before .before .next-item .ensures .is, ← c .before .transfer-of .ensures) (search choose depth 9)
+returns c = reads moveSource _ _ _ _ (c .before .before .before .before .next-item .ensures .is) (rw (← c .before .transfer-of .ensures) (search choose depth 9))
 
 transfer-of-requires-2 : tie.Need-transfer-of-requires-2
 transfer-of-requires-2 c κs = search needs
@@ -25,8 +25,7 @@ move-start-requires-2 : tie.Need-move-start-requires-2
 move-start-requires-2 c κs = search needs
 
 returns-2 : tie.Need-returns-2
-unfolding moveSource oneOf
-returns-2 c = rw (← c .before .before .before .before .before .before .next-item .ensures .is, ← c .before .transfer-of2 .ensures) (search choose depth 9)
+returns-2 c = reads moveSource _ _ _ _ (c .before .before .before .before .before .before .next-item .ensures .is) (rw (← c .before .transfer-of2 .ensures) (search choose depth 9))
 
 part-of-requires : tie.Need-part-of-requires
 part-of-requires c κs = search needs
@@ -38,15 +37,13 @@ move-start-requires-3 : tie.Need-move-start-requires-3
 move-start-requires-3 c κs = search needs
 
 returns-3 : tie.Need-returns-3
-unfolding moveSource oneOf
-returns-3 c = rw (← c .before .before .before .before .before .before .before .before .before .next-item .ensures .is, ← c .before .before .part-of .ensures, ← c .before .transfer-of3 .ensures) (search choose depth 9)
+returns-3 c = reads moveSource _ _ _ _ (c .before .before .before .before .before .before .before .before .before .next-item .ensures .is) (rw (← c .before .before .part-of .ensures, ← c .before .transfer-of3 .ensures) (search choose depth 9))
 
 unexpected-requires : tie.Need-unexpected-requires
 unexpected-requires c κs = search needs
 
 returns-4 : tie.Need-returns-4
-unfolding moveSource oneOf
-returns-4 c = rw (← c .before .before .before .before .before .before .before .next-item .ensures .is) (search choose depth 9)
+returns-4 c = reads moveSource _ _ _ _ (c .before .before .before .before .before .before .before .next-item .ensures .is) (search choose depth 9)
 
 pub move-source-spec : {M : Type 1} → statement M
 move-source-spec =

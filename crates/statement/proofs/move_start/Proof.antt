@@ -1,6 +1,6 @@
--- `statement::move_start` meets its contract. Assumes nothing.
-use Rattle.statement.specs.Statement.{oneOf, moveStart}
-use Rattle.laws.proofs.Choose.{choose}
+-- `statement::move_start` meets its contract.
+use Rattle.grammar.specs.Grammar.Point.{moveStart}
+use Rattle.statement.proofs.Along.{reads, along}
 use borrow.Author.Needs.{needs}
 use Rattle.statement.proofs.move_start.Statement.{statement}
 use Rattle.statement.proofs.move_start.Tie as tie
@@ -12,22 +12,19 @@ start-kind-requires : tie.Need-start-kind-requires
 start-kind-requires c κs = search needs
 
 returns : tie.Need-returns
-unfolding moveStart oneOf
-returns c = rw (← c .before .before .before .next-item .ensures .is) (search choose depth 9)
+returns c = reads moveStart _ _ _ _ (c .before .before .before .next-item .ensures .is) (search along depth 9)
 
 transferred-requires : tie.Need-transferred-requires
 transferred-requires c κs = search needs
 
 returns-2 : tie.Need-returns-2
-unfolding moveStart oneOf
-returns-2 c = rw (← c .before .before .before .before .before .next-item .ensures .is, ← c .transferred .ensures) (search choose depth 9)
+returns-2 c = reads moveStart _ _ _ _ (c .before .before .before .before .before .next-item .ensures .is) (rw (← c .transferred .ensures) (search along depth 9))
 
 unexpected-requires : tie.Need-unexpected-requires
 unexpected-requires c κs = search needs
 
 returns-3 : tie.Need-returns-3
-unfolding moveStart oneOf
-returns-3 c = rw (← c .before .before .before .before .before .next-item .ensures .is) (search choose depth 9)
+returns-3 c = reads moveStart _ _ _ _ (c .before .before .before .before .before .next-item .ensures .is) (search along depth 9)
 
 pub move-start-spec : {M : Type 1} → statement M
 move-start-spec =

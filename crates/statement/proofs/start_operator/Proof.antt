@@ -1,6 +1,7 @@
--- `statement::start_operator` meets its contract. Assumes nothing.
-use Rattle.statement.specs.Statement.{oneOf, startOperator}
+-- `statement::start_operator` meets its contract.
+use Rattle.grammar.specs.Grammar.Point.{startOperator}
 use Rattle.laws.proofs.Choose.{choose}
+use Rattle.statement.proofs.Along.{reads}
 use borrow.Author.Needs.{needs}
 use Rattle.statement.proofs.start_operator.Statement.{statement}
 use Rattle.statement.proofs.start_operator.Tie as tie
@@ -12,15 +13,13 @@ start-value-requires : tie.Need-start-value-requires
 start-value-requires c κs = search needs
 
 returns : tie.Need-returns
-unfolding startOperator oneOf
-returns c = rw (← c .before .before .before .next-item .ensures .is) (search choose depth 9)
+returns c = reads startOperator _ _ _ _ (c .before .before .before .next-item .ensures .is) (search choose depth 9)
 
 unexpected-requires : tie.Need-unexpected-requires
 unexpected-requires c κs = search needs
 
 returns-2 : tie.Need-returns-2
-unfolding startOperator oneOf
-returns-2 c = rw (← c .before .before .before .next-item .ensures .is) (search choose depth 9)
+returns-2 c = reads startOperator _ _ _ _ (c .before .before .before .next-item .ensures .is) (search choose depth 9)
 
 pub start-operator-spec : {M : Type 1} → statement M
 start-operator-spec =

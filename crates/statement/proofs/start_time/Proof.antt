@@ -1,6 +1,7 @@
--- `statement::start_time` meets its contract. Assumes nothing.
-use Rattle.statement.specs.Statement.{oneOf, startTime}
+-- `statement::start_time` meets its contract.
+use Rattle.grammar.specs.Grammar.Point.{startTime}
 use Rattle.laws.proofs.Choose.{choose}
+use Rattle.statement.proofs.Along.{reads}
 use borrow.Author.Needs.{needs}
 use Rattle.statement.proofs.start_time.Statement.{statement}
 use Rattle.statement.proofs.start_time.Tie as tie
@@ -12,22 +13,19 @@ start-date-requires : tie.Need-start-date-requires
 start-date-requires c κs = search needs
 
 returns : tie.Need-returns
-unfolding startTime oneOf
-returns c = rw (← c .before .before .before .next-item .ensures .is) (search choose depth 9)
+returns c = reads startTime _ _ _ _ (c .before .before .before .next-item .ensures .is) (search choose depth 9)
 
 no-requires : tie.Need-no-requires
 no-requires c κs = search needs
 
 returns-2 : tie.Need-returns-2
-unfolding startTime oneOf
-returns-2 c = rw (← c .before .before .before .before .before .next-item .ensures .is) (search choose depth 9)
+returns-2 c = reads startTime _ _ _ _ (c .before .before .before .before .before .next-item .ensures .is) (search choose depth 9)
 
 unexpected-requires : tie.Need-unexpected-requires
 unexpected-requires c κs = search needs
 
 returns-3 : tie.Need-returns-3
-unfolding startTime oneOf
-returns-3 c = rw (← c .before .before .before .before .before .next-item .ensures .is) (search choose depth 9)
+returns-3 c = reads startTime _ _ _ _ (c .before .before .before .before .before .next-item .ensures .is) (search choose depth 9)
 
 pub start-time-spec : {M : Type 1} → statement M
 start-time-spec =

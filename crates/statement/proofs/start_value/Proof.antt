@@ -1,6 +1,7 @@
--- `statement::start_value` meets its contract. Assumes nothing.
+-- `statement::start_value` meets its contract.
 use Rattle.statement.proofs.Values.{values}
-use Rattle.statement.specs.Statement.{oneOf, startValue}
+use Rattle.grammar.specs.Grammar.Point.{startValue}
+use Rattle.statement.proofs.Along.{reads}
 use borrow.Author.Needs.{needs}
 use Rattle.statement.proofs.start_value.Statement.{statement}
 use Rattle.statement.proofs.start_value.Tie as tie
@@ -21,8 +22,7 @@ ending-requires : tie.Need-ending-requires
 ending-requires c κs = search needs
 
 returns : tie.Need-returns
-unfolding startValue oneOf
-returns c = rw (← c .before .before .before .before .before .before .next-item .ensures .is, ← c .before .before .start-when .ensures, ← c .before .transferred .ensures) (search values depth 9)
+returns c = reads startValue _ _ _ _ (c .before .before .before .before .before .before .next-item .ensures .is) (rw (← c .before .before .start-when .ensures, ← c .before .transferred .ensures) (search values depth 9))
 
 start-when-requires-2 : tie.Need-start-when-requires-2
 start-when-requires-2 c κs = search needs
@@ -34,15 +34,13 @@ ending-requires-2 : tie.Need-ending-requires-2
 ending-requires-2 c κs = search needs
 
 returns-2 : tie.Need-returns-2
-unfolding startValue oneOf
-returns-2 c = rw (← c .before .before .before .before .before .before .before .next-item .ensures .is, ← c .before .before .start-when2 .ensures, ← c .before .transferred2 .ensures) (search values depth 9)
+returns-2 c = reads startValue _ _ _ _ (c .before .before .before .before .before .before .before .next-item .ensures .is) (rw (← c .before .before .start-when2 .ensures, ← c .before .transferred2 .ensures) (search values depth 9))
 
 unexpected-requires : tie.Need-unexpected-requires
 unexpected-requires c κs = search needs
 
 returns-3 : tie.Need-returns-3
-unfolding startValue oneOf
-returns-3 c = rw (← c .before .before .before .before .before .next-item .ensures .is) (search values depth 9)
+returns-3 c = reads startValue _ _ _ _ (c .before .before .before .before .before .next-item .ensures .is) (search values depth 9)
 
 pub start-value-spec : {M : Type 1} → statement M
 start-value-spec =
