@@ -20,7 +20,7 @@ use Rattle.record.specs.Reading.{recordRead, contentOf, withText, textOf}
 use Rattle.record.specs.Writing as writing
 use Rattle.record.specs.declared.Record.{Record}
 use Rattle.record.proofs.RoundTrip as records
-use Rattle.grammar.specs.Reading.{Answer as Reading}
+use Rattle.grammar.specs.Reading.{OffsetsRead as Reading}
 use Rattle.item.proofs.Lines.{tokens-at}
 use Rattle.item.proofs.Moments.{date-says, no-other-date, time-says}
 use Rattle.item.proofs.Spelled.{in-file-exactly}

@@ -12,7 +12,7 @@ use Rattle.scan.specs.Run.{run, runEnd, blank, blankEnd}
 use Rattle.token.specs.Token.{wordAt, textAt, isTextAt, isTimeAt, isNumberAt, shapedAt, numericAt, signAt, tokenAt, nextToken}
 use Rattle.item.specs.Tokens.{abortClass, clauseClass, wordClass, numberClass, dateNumber, timeNumber, itemOf, nextItem, lineFrom, line}
 use Rattle.item.specs.Items.{numbered as numbered-item, itemAt}
-use Rattle.grammar.specs.Reading.{read, Answer as Reading}
+use Rattle.grammar.specs.Reading.{read, OffsetsRead as Reading}
 use Rattle.statement.specs.Statement.{readWithin, readFrom, statementOf}
 use Rattle.statement.specs.declared.Statement.{Statement}
 use Rattle.statement.specs.declared.Statement.the-variants.{Job, GetInfo}

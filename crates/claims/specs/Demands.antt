@@ -25,7 +25,7 @@ use Rattle.record.specs.declared.Record.{Record}
 use Rattle.grammar.specs.Grammar.Class.{number as noDate, date, unrealDate}
 use Rattle.grammar.specs.Statement.{Statement}
 use Rattle.grammar.specs.Productions.{Placed, File, Begins}
-use Rattle.grammar.specs.Reading.{Answer as Reading}
+use Rattle.grammar.specs.Reading.{OffsetsRead as Reading}
 use Rattle.grammar.specs.Rows.{Three, FourToken, FourEnd, Five, Six}
 use Rattle.token.specs.Token.{WholeString, isTextAt, contentAt, tokenAt, nextToken}
 use Rattle.token.specs.declared.Token.the-variants.{Number, Text}

@@ -15,9 +15,9 @@ use Rattle.grammar.specs.Productions.{Placed, classes, Job, Other, Ended
 use Rattle.grammar.specs.Productions.Others.{none, more}
 use Rattle.grammar.specs.Productions.File.{file}
 use Rattle.grammar.specs.Reading.{State, opening, move, moves}
-use Rattle.grammar.specs.Reading.State.{on, wrong}
+use Rattle.grammar.specs.Reading.State.{on, refusedAt}
 use Rattle.grammar.proofs.Points.{stays, elsewhere, walked-job, walked-other, job-walks, other-walks}
-use Rattle.grammar.proofs.Moves.{Moved, moved, Fine, fine, moves-append, moves-wrong, wrong≢on}
+use Rattle.grammar.proofs.Moves.{Moved, moved, Fine, fine, moves-append, moves-refused, refused≢on}
 use Rattle.grammar.proofs.Moves.Moved.{goes, begins}
 use Rattle.grammar.proofs.Moves.Fine.{fresh, running}
 
@@ -34,7 +34,8 @@ walks (t ∷ a) q os w =
     ap (λ (s : State). moves s a) (rw (d, l)) ∙ walks a (step q (t .class)) os w
 
 -- a statement more
-one : (t : Placed) (a : List Placed) (os : List ℕ) → length os < statements → walk (opening os) (t .class ∷ classes a) ≡ done → moves (on done os) (t ∷ a) ≡ on done (os ++ (t .place ∷ []))
+one : (t : Placed) (a : List Placed) (os : List ℕ) → length os < statements → walk (opening os) (t .class ∷ classes a) ≡ done
+    → moves (on done os) (t ∷ a) ≡ on done (os ++ (t .place ∷ []))
 one t a os l w =
     let d : isPoint (step (opening os) (t .class)) dead ≡ false = not-dead (step (opening os) (t .class)) (classes a) w in
     let n : ltb (length os) statements ≡ true = lt-ltb _ _ l in
@@ -44,7 +45,8 @@ snoc : (os : List ℕ) (p : ℕ) (rs : List ℕ) → (os ++ (p ∷ [])) ++ rs �
 snoc os p rs = append-assoc os (p ∷ []) rs
 
 -- productions to reader
-others-read : {b : List Placed} {rs : List ℕ} {xs : List Statement} → Others b rs xs → (o : ℕ) (os : List ℕ) → length (o ∷ (os ++ rs)) ≤ statements → moves (on done (o ∷ os)) b ≡ on done (o ∷ (os ++ rs))
+others-read : {b : List Placed} {rs : List ℕ} {xs : List Statement} → Others b rs xs → (o : ℕ) (os : List ℕ) → length (o ∷ (os ++ rs)) ≤ statements
+    → moves (on done (o ∷ os)) b ≡ on done (o ∷ (os ++ rs))
 others-read none o os l = rw append-nil
 others-read (more {t = t} {a = a} {b = b} {os = rs} e r) o os l =
     let f : length (o ∷ os) < statements = omega (arith, length-append os (t .place ∷ rs)) in
@@ -76,7 +78,8 @@ rest [] q o os all e =
     record { open-part = []; after = []; begun = []; read = []; parts = refl; walked = cc; closed = none; offsets = rw append-nil a }
 rest (t ∷ l) q o os all e = go (λ r ps d. rest l r o ps all d) (move (on q (o ∷ os)) t) (moved q (o ∷ os) t) e
   where
-    go : ((r : Point) (ps : List ℕ) → moves (on r (o ∷ ps)) l ≡ on done all → Rest r (o ∷ ps) l all) → (s : State) → Moved q (o ∷ os) t s → moves s l ≡ on done all → Rest q (o ∷ os) (t ∷ l) all
+    go : ((r : Point) (ps : List ℕ) → moves (on r (o ∷ ps)) l ≡ on done all → Rest r (o ∷ ps) l all) → (s : State) → Moved q (o ∷ os) t s
+        → moves s l ≡ on done all → Rest q (o ∷ os) (t ∷ l) all
     go later (on r ps) (goes n a) d =
         let s : Rest (step q (t .class)) (o ∷ os) l all = later (step q (t .class)) os d in
         record {
@@ -102,7 +105,7 @@ rest (t ∷ l) q o os all e = go (λ r ps d. rest l r o ps all d) (move (on q (o
           closed = rw (s .parts) (more (w .1) (s .closed));
           offsets = s .offsets ∙ rw snoc;
         }
-    go later (wrong n p) m d = absurd (wrong≢on (sym (moves-wrong n p l) ∙ d))
+    go later (refusedAt n p) m d = absurd (refused≢on (sym (moves-refused n p l) ∙ d))
 
 -- no statement, no file
 no-token-taken : (o : ℕ) (os : List ℕ) → on done [] ≡ on done (o ∷ os) → ⊥
@@ -125,4 +128,4 @@ read-legal (t ∷ l) o os e =
           w .0 ∷ s .read,
           subst₂ (λ (m : List Placed) (all : List ℕ). File (t ∷ m) all (w .0 ∷ s .read)) (sym (s .parts)) (sym (s .offsets)) (file (w .1) (s .closed)),
         )
-    go (wrong n p) m d = absurd (wrong≢on (sym (moves-wrong n p l) ∙ d))
+    go (refusedAt n p) m d = absurd (refused≢on (sym (moves-refused n p l) ∙ d))

@@ -12,8 +12,8 @@ use Rattle.counts.specs.Refusals.{unexpected, notReal, tooManyStatements}
 use Rattle.grammar.specs.Grammar.{Point, step, isPoint, shape}
 use Rattle.grammar.specs.Grammar.Point.{done, dead}
 use Rattle.grammar.specs.Productions.{Placed}
-use Rattle.grammar.specs.Reading.{State, turn, opening, begin, move, moves}
-use Rattle.grammar.specs.Reading.State.{on, wrong}
+use Rattle.grammar.specs.Reading.{State, stepWith, opening, begin, move, moves}
+use Rattle.grammar.specs.Reading.State.{on, refusedAt}
 use Rattle.grammar.specs.Rows.{real}
 use Rattle.grammar.proofs.Apart.{is-point}
 
@@ -25,34 +25,37 @@ Alive q t = isPoint (step q (t .class)) dead ≡ false
 pub data Moved (q : Point) (os : List ℕ) (t : Placed) : State → Type 0 where
   goes : isPoint q done ≡ false → Alive q t → Moved q os t (on (step q (t .class)) os)
   begins : q ≡ done → length os < statements → Alive (opening os) t → Moved q os t (on (step (opening os) (t .class)) (os ++ (t .place ∷ [])))
-  full : q ≡ done → statements ≤ length os → Moved q os t (wrong tooManyStatements (t .place))
-  unreal : (p : Point) (rs : List ℕ) → move (on q os) (real t) ≡ on p rs → Moved q os t (wrong notReal (t .place))
-  never : (n : ℕ) × move (on q os) (real t) ≡ wrong n (t .place) → Moved q os t (wrong unexpected (t .place))
+  full : q ≡ done → statements ≤ length os → Moved q os t (refusedAt tooManyStatements (t .place))
+  unreal : (p : Point) (rs : List ℕ) → move (on q os) (real t) ≡ on p rs → Moved q os t (refusedAt notReal (t .place))
+  never : (n : ℕ) × move (on q os) (real t) ≡ refusedAt n (t .place) → Moved q os t (refusedAt unexpected (t .place))
 
-either : (b : Bool) (p : ℕ) → (n : ℕ) × cond b (wrong unexpected p) (wrong notReal p) ≡ wrong n p
+either : (b : Bool) (p : ℕ) → (n : ℕ) × cond b (refusedAt unexpected p) (refusedAt notReal p) ≡ refusedAt n p
 either true p = (unexpected, refl)
 either false p = (notReal, refl)
 
--- where the reader takes a token by `turn p rs`
-module _ (q : Point) (os : List ℕ) (t : Placed) (p : Point) (rs : List ℕ) (by : move (on q os) (real t) ≡ turn p rs (real t)) (on-it : Alive p t → Moved q os t (on (step p (t .class)) rs)) where
-  by-turn : (b d : Bool) → isPoint (step p (t .class)) dead ≡ b → isPoint (step p (shape (t .class))) dead ≡ d → Moved q os t (cond b (cond d (wrong unexpected (t .place)) (wrong notReal (t .place))) (on (step p (t .class)) rs))
-  by-turn false d i j = on-it i
-  by-turn true false i j = unreal (step p (shape (t .class))) rs (by ∙ rw j)
-  by-turn true true i j =
-      let e : (n : ℕ) × cond (isPoint (step p (shape (shape (t .class)))) dead) (wrong unexpected (t .place)) (wrong notReal (t .place)) ≡ wrong n (t .place) = either (isPoint (step p (shape (shape (t .class)))) dead) (t .place) in
+-- where the reader takes a token by `stepWith p rs`
+module _ (q : Point) (os : List ℕ) (t : Placed) (p : Point) (rs : List ℕ)
+    (by : move (on q os) (real t) ≡ stepWith p rs (real t)) (on-it : Alive p t → Moved q os t (on (step p (t .class)) rs)) where
+  by-step : (b d : Bool) → isPoint (step p (t .class)) dead ≡ b → isPoint (step p (shape (t .class))) dead ≡ d
+      → Moved q os t (cond b (cond d (refusedAt unexpected (t .place)) (refusedAt notReal (t .place))) (on (step p (t .class)) rs))
+  by-step false d i j = on-it i
+  by-step true false i j = unreal (step p (shape (t .class))) rs (by ∙ rw j)
+  by-step true true i j =
+      let e = either (isPoint (step p (shape (shape (t .class)))) dead) (t .place) in
       never (e .0, by ∙ rw j (e .1))
 
-  turned : Moved q os t (turn p rs t)
-  turned = by-turn _ _ refl refl
+  stepped : Moved q os t (stepWith p rs t)
+  stepped = by-step _ _ refl refl
 
 module _ (q : Point) (os : List ℕ) (t : Placed) where
-  by-begin : (b : Bool) → q ≡ done → ltb (length os) statements ≡ b → Moved q os t (cond b (turn (opening os) (os ++ (t .place ∷ [])) t) (wrong tooManyStatements (t .place)))
-  by-begin true e l = turned q os t (opening os) (os ++ (t .place ∷ [])) (rw (e, l)) (begins e (ltb-true _ _ l))
+  by-begin : (b : Bool) → q ≡ done → ltb (length os) statements ≡ b
+      → Moved q os t (cond b (stepWith (opening os) (os ++ (t .place ∷ [])) t) (refusedAt tooManyStatements (t .place)))
+  by-begin true e l = stepped q os t (opening os) (os ++ (t .place ∷ [])) (rw (e, l)) (begins e (ltb-true _ _ l))
   by-begin false e l = full e (ltb-false _ _ l)
 
-  by-move : (b : Bool) → isPoint q done ≡ b → Moved q os t (cond b (begin os t) (turn q os t))
+  by-move : (b : Bool) → isPoint q done ≡ b → Moved q os t (cond b (begin os t) (stepWith q os t))
   by-move true e = by-begin _ (is-point q done e) refl
-  by-move false e = turned q os t q os (rw e) (goes e)
+  by-move false e = stepped q os t q os (rw e) (goes e)
 
   pub moved : Moved q os t (move (on q os) t)
   moved = by-move _ refl
@@ -71,16 +74,16 @@ fine-on {t = t} fresh (begins e l i) = running {o = t .place} {os = []} i (omega
 fine-on (running a f) (goes e i) = running i f
 fine-on {t = t} (running {o = o} {os = os} a f) (begins e l i) = running i (one-more o os (t .place) l)
 
-pub moves-wrong : (n p : ℕ) (l : List Placed) → moves (wrong n p) l ≡ wrong n p
-moves-wrong n p [] = refl
-moves-wrong n p (t ∷ l) = moves-wrong n p l
+pub moves-refused : (n p : ℕ) (l : List Placed) → moves (refusedAt n p) l ≡ refusedAt n p
+moves-refused n p [] = refl
+moves-refused n p (t ∷ l) = moves-refused n p l
 
 pub moves-append : (s : State) (a b : List Placed) → moves s (a ++ b) ≡ moves (moves s a) b
 moves-append s [] b = refl
 moves-append s (t ∷ a) b = moves-append (move s t) a b
 
-pub wrong≢on : {n p : ℕ} {q : Point} {os : List ℕ} → wrong n p ≡ on q os → ⊥
-wrong≢on e = let z : _≡_ {A = ℕ} 0 1 = cc in omega arith
+pub refused≢on : {n p : ℕ} {q : Point} {os : List ℕ} → refusedAt n p ≡ on q os → ⊥
+refused≢on e = let z : _≡_ {A = ℕ} 0 1 = cc in omega arith
 
 pub fine : (l : List Placed) (q p : Point) (os rs : List ℕ) → Fine q os → moves (on q os) l ≡ on p rs → Fine p rs
 fine [] q p os rs f e =
@@ -91,4 +94,4 @@ fine (t ∷ l) q p os rs f e = go (λ r ps g d. fine l r p ps rs g d) (move (on 
   where
     go : ((r : Point) (ps : List ℕ) → Fine r ps → moves (on r ps) l ≡ on p rs → Fine p rs) → (s : State) → Moved q os t s → moves s l ≡ on p rs → Fine p rs
     go later (on r ps) m d = later r ps (fine-on f m) d
-    go later (wrong n r) m d = absurd (wrong≢on (sym (moves-wrong n r l) ∙ d))
+    go later (refusedAt n r) m d = absurd (refused≢on (sym (moves-refused n r l) ∙ d))

@@ -140,9 +140,18 @@ along : (P : Edge → Type 0) (c : Class) (es : List Edge) → Each P es → (lo
 along P c [] ps = inl refl
 along P c (e ∷ es) ps = go (along P c es (ps .1)) (isClass c (e .class)) refl
   where
-    go : (look c es ≡ dead) ⊎ P (record { class = c; to = look c es }) → (b : Bool) → isClass c (e .class) ≡ b → (cond b (e .to) (look c es) ≡ dead) ⊎ P (record { class = c; to = cond b (e .to) (look c es) })
+    go : (look c es ≡ dead) ⊎ P (record { class = c; to = look c es }) → (b : Bool) → isClass c (e .class) ≡ b
+        → (cond b (e .to) (look c es) ≡ dead) ⊎ P (record { class = c; to = cond b (e .to) (look c es) })
     go later true i = inr (subst (λ (d : Class). P (record { class = d; to = e .to })) (sym (is-class _ _ i)) (ps .0))
     go later false i = later
+
+pub classes-append : (a b : List Placed) → classes (a ++ b) ≡ classes a ++ classes b
+classes-append [] b = refl
+classes-append (t ∷ a) b = ap (λ (k : List Class). t .class ∷ k) (classes-append a b)
+
+pub walk-append : (q : Point) (k r : List Class) → walk q (k ++ r) ≡ walk (walk q k) r
+walk-append q [] r = refl
+walk-append q (c ∷ k) r = walk-append (step q c) k r
 
 pub stays : (k : List Class) → walk dead k ≡ dead
 stays [] = refl

@@ -1,80 +1,70 @@
 -- Whether tokens are a legal file depends on their classes alone, not on their places or what they say.
-use mathlib.Core.Path.{_≡_, refl, _∙_, ap}
-use mathlib.Core.Bool.{Bool, true, false, cond}
+use mathlib.Core.Path.{_≡_, refl, sym, _∙_, ap, ap₂, subst}
 use mathlib.Core.List.{List, [], _∷_, _++_}
 use Prim.Native.Nat.{ℕ}
 use native.Mathlib.Omega.{arith}
-use lib.Dec.{ltb}
-use lib.ListN.{length, length-append}
-use Rattle.counts.specs.Limits.{statements}
-use Rattle.counts.specs.Refusals.{unexpected, notReal, tooManyStatements}
-use Rattle.grammar.specs.Grammar.{Point, step, isPoint, shape}
-use Rattle.grammar.specs.Grammar.Point.{done, dead}
+use lib.ListN.{length}
+use Rattle.grammar.specs.Grammar.{Class, Point, walk}
+use Rattle.grammar.specs.Grammar.Point.{first, between, done}
 use Rattle.grammar.specs.Statement.{Statement}
-use Rattle.grammar.specs.Productions.{Placed, classes, File, Legal}
+use Rattle.grammar.specs.Productions.{Placed, classes, Ended, Others, File, Legal}
+use Rattle.grammar.specs.Productions.Others.{none, more}
 use Rattle.grammar.specs.Productions.File.{file}
-use Rattle.grammar.specs.Reading.{State, turn, opening, begin, move, moves}
-use Rattle.grammar.specs.Reading.State.{on, wrong}
-use Rattle.grammar.proofs.Files.{file-read, read-legal}
+use Rattle.grammar.proofs.Points.{classes-append, walked-job, walked-other, job-walks, other-walks}
 
--- the same state, up to places
-data Alike : State → State → Type 0 where
-  both-on : {q : Point} {os rs : List ℕ} → length os ≡ length rs → Alike (on q os) (on q rs)
-  both-wrong : {n p r : ℕ} → Alike (wrong n p) (wrong n r)
+-- tokens of the classes c, and then tokens of the classes d
+record Parted (us : List Placed) (c d : List Class) : Type 0 where
+  front : List Placed
+  back : List Placed
+  both : us ≡ front ++ back
+  front-is : classes front ≡ c
+  back-is : classes back ≡ d
 
-by-tests : (a b : Bool) (q : Point) (os rs : List ℕ) (p r : ℕ) → length os ≡ length rs → Alike (cond a (cond b (wrong unexpected p) (wrong notReal p)) (on q os)) (cond a (cond b (wrong unexpected r) (wrong notReal r)) (on q rs))
-by-tests false b q os rs p r l = both-on l
-by-tests true true q os rs p r l = both-wrong
-by-tests true false q os rs p r l = both-wrong
+parted : (c d : List Class) (us : List Placed) → classes us ≡ c ++ d → Parted us c d
+parted [] d us e = record { front = []; back = us; both = refl; front-is = refl; back-is = e }
+parted (x ∷ c) d [] e = let z : _≡_ {A = ℕ} 0 1 = cc in absurd (omega arith)
+parted (x ∷ c) d (u ∷ us) e =
+    let f : u .class ≡ x = cc in
+    let g : classes us ≡ c ++ d = cc in
+    let r : Parted us c d = parted c d us g in
+    record {
+      front = u ∷ r .front;
+      back = r .back;
+      both = ap (λ (l : List Placed). u ∷ l) (r .both);
+      front-is = ap₂ (λ (k : Class) (l : List Class). k ∷ l) f (r .front-is);
+      back-is = r .back-is;
+    }
 
-turn-alike : (q : Point) (os rs : List ℕ) (t u : Placed) → t .class ≡ u .class → length os ≡ length rs → Alike (turn q os t) (turn q rs u)
-turn-alike q os rs t u c l =
-    rw c (by-tests (isPoint (step q (u .class)) dead) (isPoint (step q (shape (u .class))) dead) (step q (u .class)) os rs (t .place) (u .place) l)
+-- a statement of the same classes, and the tokens after it
+again : {P : List Placed → Statement → Type 0} (q : Point) → ((k : List Placed) → walk q (classes k) ≡ done → (x : Statement) × Ended P k x)
+    → (t : Placed) (a b : List Placed) → walk q (classes (t ∷ a)) ≡ done → (u : Placed) (us : List Placed) → classes (u ∷ us) ≡ classes (t ∷ (a ++ b))
+    → (p : Parted us (classes a) (classes b)) × (x : Statement) × Ended P (u ∷ p .front) x
+again q walked t a b w u us e =
+    let c : u .class ≡ t .class = cc in
+    let d : classes us ≡ classes (a ++ b) = cc in
+    let p : Parted us (classes a) (classes b) = parted (classes a) (classes b) us (d ∙ classes-append a b) in
+    let (x, y) = walked (u ∷ p .front) (ap₂ (λ (k : Class) (l : List Class). walk q (k ∷ l)) c (p .front-is) ∙ w) in
+    (p, x, y)
 
-opening-alike : (os rs : List ℕ) → length os ≡ length rs → opening os ≡ opening rs
-opening-alike [] [] l = refl
-opening-alike [] (r ∷ rs) l = absurd (omega arith)
-opening-alike (o ∷ os) [] l = absurd (omega arith)
-opening-alike (o ∷ os) (r ∷ rs) l = refl
+-- as many statements
+abbrev Again : (List Placed → List ℕ → List Statement → Type 0) → List Placed → List ℕ → Type 0
+Again P us os = (rs : List ℕ) × (ys : List Statement) × P us rs ys × length rs ≡ length os
 
-one-longer : (os rs : List ℕ) (p r : ℕ) → length os ≡ length rs → length (os ++ (p ∷ [])) ≡ length (rs ++ (r ∷ []))
-one-longer os rs p r l = simp length-append (omega arith)
+others-again : {b : List Placed} {os : List ℕ} {xs : List Statement} → Others b os xs → (us : List Placed) → classes us ≡ classes b → Again Others us os
+others-again none [] e = ([], [], none, refl)
+others-again none (u ∷ us) e = let z : _≡_ {A = ℕ} 0 1 = cc in absurd (omega arith)
+others-again (more w r) [] e = let z : _≡_ {A = ℕ} 0 1 = cc in absurd (omega arith)
+others-again (more {t = t} {a = a} {b = b} w r) (u ∷ us) e =
+    let (p, x, y) = again between walked-other t a b (other-walks w) u us e in
+    let (rs, ys, o, l) = others-again r (p .back) (p .back-is) in
+    (u .place ∷ rs, x ∷ ys, subst (λ (m : List Placed). Others (u ∷ m) (u .place ∷ rs) (x ∷ ys)) (sym (p .both)) (more y o), rw l)
 
-begin-alike : (os rs : List ℕ) (t u : Placed) → t .class ≡ u .class → length os ≡ length rs → Alike (begin os t) (begin rs u)
-begin-alike os rs t u c l = rw (l, opening-alike os rs l) (go (ltb (length rs) statements))
-  where
-    go : (b : Bool) → Alike (cond b (turn (opening rs) (os ++ (t .place ∷ [])) t) (wrong tooManyStatements (t .place))) (cond b (turn (opening rs) (rs ++ (u .place ∷ [])) u) (wrong tooManyStatements (u .place)))
-    go true = turn-alike (opening rs) (os ++ (t .place ∷ [])) (rs ++ (u .place ∷ [])) t u c (one-longer os rs (t .place) (u .place) l)
-    go false = both-wrong
-
-move-alike : {s r : State} → Alike s r → (t u : Placed) → t .class ≡ u .class → Alike (move s t) (move r u)
-move-alike both-wrong t u c = both-wrong
-move-alike (both-on {q = q} {os = os} {rs = rs} l) t u c = go (isPoint q done)
-  where
-    go : (b : Bool) → Alike (cond b (begin os t) (turn q os t)) (cond b (begin rs u) (turn q rs u))
-    go true = begin-alike os rs t u c l
-    go false = turn-alike q os rs t u c l
-
-moves-alike : (ts us : List Placed) {s r : State} → classes ts ≡ classes us → Alike s r → Alike (moves s ts) (moves r us)
-moves-alike [] [] e a = a
-moves-alike [] (u ∷ us) e a = let z : _≡_ {A = ℕ} 0 1 = cc in absurd (omega arith)
-moves-alike (t ∷ ts) [] e a = let z : _≡_ {A = ℕ} 0 1 = cc in absurd (omega arith)
-moves-alike (t ∷ ts) (u ∷ us) e a =
-    let c : t .class ≡ u .class = cc in
-    let d : classes ts ≡ classes us = cc in
-    moves-alike ts us d (move-alike a t u c)
-
--- a state like one after whole statements
-whole : {os : List ℕ} {s : State} → Alike (on done os) s → (rs : List ℕ) × s ≡ on done rs × length os ≡ length rs
-whole (both-on {rs = rs} l) = (rs, refl, l)
-
-at-least-one : {ts : List Placed} {os : List ℕ} {xs : List Statement} → File ts os xs → (rs : List ℕ) → length os ≡ length rs → (o : ℕ) × (ps : List ℕ) × rs ≡ o ∷ ps
-at-least-one (file e r) [] l = absurd (omega arith)
-at-least-one (file e r) (o ∷ ps) l = (o, ps, refl)
+file-again : {ts : List Placed} {os : List ℕ} {xs : List Statement} → File ts os xs → (us : List Placed) → classes us ≡ classes ts → Again File us os
+file-again (file w r) [] e = let z : _≡_ {A = ℕ} 0 1 = cc in absurd (omega arith)
+file-again (file {t = t} {a = a} {b = b} w r) (u ∷ us) e =
+    let (p, x, y) = again first walked-job t a b (job-walks w) u us e in
+    let (rs, ys, o, l) = others-again r (p .back) (p .back-is) in
+    (u .place ∷ rs, x ∷ ys, subst (λ (m : List Placed). File (u ∷ m) (u .place ∷ rs) (x ∷ ys)) (sym (p .both)) (file y o), rw l)
 
 pub relabel : (ts us : List Placed) (os : List ℕ) → classes ts ≡ classes us → Legal ts os → (rs : List ℕ) × Legal us rs
-relabel ts us os e l =
-    let a : Alike (moves (on done []) ts) (moves (on done []) us) = moves-alike ts us e (both-on refl) in
-    let w : (rs : List ℕ) × moves (on done []) us ≡ on done rs × length os ≡ length rs = whole (rw (file-read (l .file) (l .few)) at a) in
-    let h : (o : ℕ) × (ps : List ℕ) × w .0 ≡ o ∷ ps = at-least-one (l .file) (w .0) (w .2) in
-    (h .0 ∷ h .1, read-legal us (h .0) (h .1) (w .1 ∙ ap (on done) (h .2)))
+relabel ts us os e l = let f = file-again (l .file) us (sym e) in (f .0, record { reads = f .1; file = f .2; few = rw (f .3) (l .few) })

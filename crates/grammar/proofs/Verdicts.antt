@@ -16,20 +16,20 @@ use Rattle.grammar.specs.Grammar.Point.{done}
 use Rattle.grammar.specs.Statement.{Statement}
 use Rattle.grammar.specs.Productions.{Placed, File, Legal}
 use Rattle.grammar.specs.Productions.File.{file}
-use Rattle.grammar.specs.Reading.{State, Last, Answer, move, moves, atEnd, close, read}
+use Rattle.grammar.specs.Reading.{State, Last, OffsetsRead, move, moves, atEnd, close, read}
 use Rattle.grammar.specs.Reading.Last.{end, broken}
 use Rattle.counts.specs.Result.Result.{refused, done as taken}
-use Rattle.grammar.specs.Reading.State.{on, wrong}
+use Rattle.grammar.specs.Reading.State.{on, refusedAt}
 use Rattle.grammar.specs.Rows.{real, Full, MayStand, Stands, Three, FourToken, FourEnd, Five, Six, Whole, Says}
 use Rattle.grammar.specs.Rows.Says.{file as legal, three, four-token, four-end, five, six}
 use Rattle.grammar.proofs.Apart.{is-class, is-point}
-use Rattle.grammar.proofs.Moves.{Moved, moved, moves-append, moves-wrong, wrong≢on}
+use Rattle.grammar.proofs.Moves.{Moved, moved, moves-append, moves-refused, refused≢on}
 use Rattle.grammar.proofs.Moves.Moved.{full, unreal, never}
 use Rattle.grammar.proofs.Files.{file-read, read-legal}
 use Rattle.grammar.proofs.Viable.{start, on-begins, begins-on, shorter, stands, stands-not}
 
--- where the reader stopped
-record Stop (q : Point) (os : List ℕ) (l : List Placed) (n p : ℕ) : Type 0 where
+-- where the reader row-of
+record RefusedThere (q : Point) (os : List ℕ) (l : List Placed) (n p : ℕ) : Type 0 where
   before : List Placed
   token : Placed
   after : List Placed
@@ -37,15 +37,16 @@ record Stop (q : Point) (os : List ℕ) (l : List Placed) (n p : ℕ) : Type 0 w
   begun : List ℕ
   parts : l ≡ before ++ (token ∷ after)
   so-far : moves (on q os) before ≡ on point begun
-  stops : move (on point begun) token ≡ wrong n p
+  refuses : move (on point begun) token ≡ refusedAt n p
 
-stop : (l : List Placed) (q : Point) (os : List ℕ) (n p : ℕ) → moves (on q os) l ≡ wrong n p → Stop q os l n p
-stop [] q os n p e = absurd (wrong≢on (sym e))
-stop (t ∷ l) q os n p e = go (λ r ps d. stop l r ps n p d) (move (on q os) t) refl e
+refused-there : (l : List Placed) (q : Point) (os : List ℕ) (n p : ℕ) → moves (on q os) l ≡ refusedAt n p → RefusedThere q os l n p
+refused-there [] q os n p e = absurd (refused≢on (sym e))
+refused-there (t ∷ l) q os n p e = go (λ r ps d. refused-there l r ps n p d) (move (on q os) t) refl e
   where
-    go : ((r : Point) (ps : List ℕ) → moves (on r ps) l ≡ wrong n p → Stop r ps l n p) → (s : State) → move (on q os) t ≡ s → moves s l ≡ wrong n p → Stop q os (t ∷ l) n p
+    go : ((r : Point) (ps : List ℕ) → moves (on r ps) l ≡ refusedAt n p → RefusedThere r ps l n p) → (s : State) → move (on q os) t ≡ s
+        → moves s l ≡ refusedAt n p → RefusedThere q os (t ∷ l) n p
     go later (on r ps) m d =
-        let s : Stop r ps l n p = later r ps d in
+        let s : RefusedThere r ps l n p = later r ps d in
         record {
           before = t ∷ s .before;
           token = s .token;
@@ -54,23 +55,24 @@ stop (t ∷ l) q os n p e = go (λ r ps d. stop l r ps n p d) (move (on q os) t)
           begun = s .begun;
           parts = ap (λ (x : List Placed). t ∷ x) (s .parts);
           so-far = ap (λ (x : State). moves x (s .before)) m ∙ s .so-far;
-          stops = s .stops;
+          refuses = s .refuses;
         }
-    go later (wrong k r) m d =
-        record { before = []; token = t; after = l; point = q; begun = os; parts = refl; so-far = refl; stops = m ∙ sym (moves-wrong k r l) ∙ d }
+    go later (refusedAt k r) m d =
+        record { before = []; token = t; after = l; point = q; begun = os; parts = refl; so-far = refl; refuses = m ∙ sym (moves-refused k r l) ∙ d }
 
 all-there : (a : List Placed) (os : List ℕ) → moves start a ≡ on done os → statements ≤ length os → Full a
 all-there a [] e l = absurd (omega arith)
 all-there a (o ∷ os) e l = let f : Legal a (o ∷ os) = read-legal a o os e in (o ∷ os, f, omega (arith, f .few))
 
--- after 64 statements the reader stops with 6
-full-stops : (a : List Placed) (t : Placed) → Full a → (q : Point) (os : List ℕ) → moves start a ≡ on q os → move (on q os) t ≡ wrong tooManyStatements (t .place)
-full-stops a t f q os e =
+-- after 64 statements the reader refuses with 6
+full-refused : (a : List Placed) (t : Placed) → Full a → (q : Point) (os : List ℕ) → moves start a ≡ on q os
+    → move (on q os) t ≡ refusedAt tooManyStatements (t .place)
+full-refused a t f q os e =
     let d : on q os ≡ on done (f .0) = sym e ∙ file-read (f .1 .file) (f .1 .few) in
     let l : ltb (length (f .0)) statements ≡ false = le-ltb (length (f .0)) statements (omega arith) in
     ap (λ (s : State). move s t) d ∙ rw l
 
-six≢four : (p : ℕ) → wrong tooManyStatements p ≡ wrong unexpected p → ⊥
+six≢four : (p : ℕ) → refusedAt tooManyStatements p ≡ refusedAt unexpected p → ⊥
 six≢four p e = let z : _≡_ {A = ℕ} tooManyStatements unexpected = cc in omega arith
 
 -- the token t after the tokens a, where the reader is at q
@@ -79,18 +81,18 @@ module _ (a : List Placed) (t : Placed) (q : Point) (os : List ℕ) (e : moves s
   is-full d l = all-there a os (e ∙ ap (λ (r : Point). on r os) d) l
 
   -- 01's number at t is the reader's
-  real-stops : MayStand a (real t) → ¬ MayStand a t → (s : State) → Moved q os t s → move (on q os) t ≡ s → s ≡ wrong notReal (t .place)
-  real-stops may not (on r ps) m w = absurd (not (stands a t q os e r ps w))
-  real-stops may not (wrong n p) (full d l) w =
-      absurd (stands-not a (real t) q os e tooManyStatements (t .place) (full-stops a (real t) (is-full d l) q os e) may)
-  real-stops may not (wrong n p) (unreal r rs m) w = refl
-  real-stops may not (wrong n p) (never m) w = absurd (stands-not a (real t) q os e (m .0) (t .place) (m .1) may)
+  real-refused : MayStand a (real t) → ¬ MayStand a t → (s : State) → Moved q os t s → move (on q os) t ≡ s → s ≡ refusedAt notReal (t .place)
+  real-refused may not (on r ps) m w = absurd (not (stands a t q os e r ps w))
+  real-refused may not (refusedAt n p) (full d l) w =
+      absurd (stands-not a (real t) q os e tooManyStatements (t .place) (full-refused a (real t) (is-full d l) q os e) may)
+  real-refused may not (refusedAt n p) (unreal r rs m) w = refl
+  real-refused may not (refusedAt n p) (never m) w = absurd (stands-not a (real t) q os e (m .0) (t .place) (m .1) may)
 
-  file-stops : ¬ MayStand a t → ¬ MayStand a (real t) → ¬ Full a → (s : State) → Moved q os t s → move (on q os) t ≡ s → s ≡ wrong unexpected (t .place)
-  file-stops not nor few (on r ps) m w = absurd (not (stands a t q os e r ps w))
-  file-stops not nor few (wrong n p) (full d l) w = absurd (few (is-full d l))
-  file-stops not nor few (wrong n p) (unreal r rs m) w = absurd (nor (stands a (real t) q os e r rs m))
-  file-stops not nor few (wrong n p) (never m) w = refl
+  token-refused : ¬ MayStand a t → ¬ MayStand a (real t) → ¬ Full a → (s : State) → Moved q os t s → move (on q os) t ≡ s → s ≡ refusedAt unexpected (t .place)
+  token-refused not nor few (on r ps) m w = absurd (not (stands a t q os e r ps w))
+  token-refused not nor few (refusedAt n p) (full d l) w = absurd (few (is-full d l))
+  token-refused not nor few (refusedAt n p) (unreal r rs m) w = absurd (nor (stands a (real t) q os e r rs m))
+  token-refused not nor few (refusedAt n p) (never m) w = refl
 
 -- and the tokens b after it
 module _ (a : List Placed) (t : Placed) (b : List Placed) (z : Last) (q : Point) (os : List ℕ) (e : moves start a ≡ on q os) where
@@ -98,10 +100,10 @@ module _ (a : List Placed) (t : Placed) (b : List Placed) (z : Last) (q : Point)
   here : Stands (a ++ (t ∷ b)) (t .place) a t
   here = record { after = b; parts = refl; place = refl }
 
-  stopped : (n p : ℕ) → Moved q os t (wrong n p) → move (on q os) t ≡ wrong n p → Says (a ++ (t ∷ b)) z (refused n p)
-  stopped n p (full d l) w = six (a, t, here, is-full a t q os e d l)
-  stopped n p (unreal r rs m) w = five (a, t, here, stands a (real t) q os e r rs m, stands-not a t q os e notReal (t .place) w)
-  stopped n p (never m) w =
+  row-of : (n p : ℕ) → Moved q os t (refusedAt n p) → move (on q os) t ≡ refusedAt n p → Says (a ++ (t ∷ b)) z (refused n p)
+  row-of n p (full d l) w = six (a, t, here, is-full a t q os e d l)
+  row-of n p (unreal r rs m) w = five (a, t, here, stands a (real t) q os e r rs m, stands-not a t q os e notReal (t .place) w)
+  row-of n p (never m) w =
       four-token (
         a,
         t,
@@ -109,15 +111,15 @@ module _ (a : List Placed) (t : Placed) (b : List Placed) (z : Last) (q : Point)
         on-begins a q os e,
         stands-not a t q os e unexpected (t .place) w,
         stands-not a (real t) q os e (m .0) (t .place) (m .1),
-        λ f. six≢four (t .place) (sym (full-stops a t f q os e) ∙ w),
+        λ f. six≢four (t .place) (sym (full-refused a t f q os e) ∙ w),
       )
 
-  -- a stop is the answer
-  stop-read : (n p : ℕ) → move (on q os) t ≡ wrong n p → read (a ++ (t ∷ b)) z ≡ refused n p
+  -- a refused-there is the answer
+  refused-read : (n p : ℕ) → move (on q os) t ≡ refusedAt n p → read (a ++ (t ∷ b)) z ≡ refused n p
   unfolding read
-  stop-read n p w =
+  refused-read n p w =
       ap (λ (s : State). close s z)
-      (moves-append start a (t ∷ b) ∙ ap (λ (s : State). moves s (t ∷ b)) e ∙ ap (λ (s : State). moves s b) w ∙ moves-wrong n p b)
+      (moves-append start a (t ∷ b) ∙ ap (λ (s : State). moves s (t ∷ b)) e ∙ ap (λ (s : State). moves s b) w ∙ moves-refused n p b)
 
 -- a legal file has a statement
 has-one : {ts : List Placed} {os : List ℕ} {xs : List Statement} → File ts os xs → (o : ℕ) × (rs : List ℕ) × os ≡ o ∷ rs
@@ -137,16 +139,17 @@ not-open ts q rs e d os l =
     true≢false (rw h at d)
 
 -- the end of the file
-ended : (ts : List Placed) (p : ℕ) (q : Point) (o : ℕ) (os : List ℕ) → moves start ts ≡ on q (o ∷ os) → (b : Bool) → isPoint q done ≡ b → Says ts (end p) (cond b (taken (o ∷ os)) (refused unexpected p))
+ended : (ts : List Placed) (p : ℕ) (q : Point) (o : ℕ) (os : List ℕ) → moves start ts ≡ on q (o ∷ os) → (b : Bool) → isPoint q done ≡ b
+    → Says ts (end p) (cond b (taken (o ∷ os)) (refused unexpected p))
 ended ts p q o os e true d = legal (p, refl, read-legal ts o os (e ∙ ap (λ (r : Point). on r (o ∷ os)) (is-point q done d)))
 ended ts p q o os e false d = four-end (on-begins ts q (o ∷ os) e, refl, not-open ts q (o ∷ os) e d)
 
 says : (ts : List Placed) (z : Last) (s : State) → moves start ts ≡ s → Says ts z (close s z)
-says ts z (wrong n p) e =
-    let s : Stop done [] ts n p = stop ts done [] n p e in
+says ts z (refusedAt n p) e =
+    let s : RefusedThere done [] ts n p = refused-there ts done [] n p e in
     rw (s .parts)
-    (stopped (s .before) (s .token) (s .after) z (s .point) (s .begun) (s .so-far) n p
-    (rw (s .stops) at (moved (s .point) (s .begun) (s .token))) (s .stops))
+    (row-of (s .before) (s .token) (s .after) z (s .point) (s .begun) (s .so-far) n p
+    (rw (s .refuses) at (moved (s .point) (s .begun) (s .token))) (s .refuses))
 says ts (broken p) (on q os) e = three (on-begins ts q os e, refl)
 says ts (end p) (on q []) e = four-end (on-begins ts q [] e, refl, not-empty ts q e)
 says ts (end p) (on q (o ∷ os)) e = ended ts p q o os e (isPoint q done) refl
@@ -161,7 +164,8 @@ taken-read ts os p l =
     let h : (o : ℕ) × (rs : List ℕ) × os ≡ o ∷ rs = has-one (l .file) in
     ap (λ (s : State). close s (end p)) (file-read (l .file) (l .few)) ∙ rw (h .2)
 
-open-read : (ts : List Placed) (p : ℕ) (q : Point) (os : List ℕ) → moves start ts ≡ on q os → ((rs : List ℕ) → ¬ Legal ts rs) → atEnd q os p ≡ refused unexpected p
+open-read : (ts : List Placed) (p : ℕ) (q : Point) (os : List ℕ) → moves start ts ≡ on q os → ((rs : List ℕ) → ¬ Legal ts rs)
+    → atEnd q os p ≡ refused unexpected p
 open-read ts p q [] e none = refl
 open-read ts p q (o ∷ os) e none = go (isPoint q done) refl
   where
@@ -187,26 +191,27 @@ module _ (ts : List Placed) (z : Last) (p : ℕ) where
       let s : (q : Point) × (os : List ℕ) × moves start ts ≡ on q os = begins-on ts (r .0) in
       rw (r .1, s .2) (open-read ts p (s .0) (s .1) (s .2) (r .2))
 
-  -- where the token t stands after a, and the reader stops there
-  stop-is : (a : List Placed) (t : Placed) → Stands ts p a t → (q : Point) (os : List ℕ) → moves start a ≡ on q os → (n : ℕ) → move (on q os) t ≡ wrong n (t .place) → read ts z ≡ refused n p
-  stop-is a t h q os e n w = rw (h .parts, ← h .place) (stop-read a t (h .after) z q os e n (t .place) w)
+  -- where the token t stands after a, and the reader refuses there
+  refused-is : (a : List Placed) (t : Placed) → Stands ts p a t → (q : Point) (os : List ℕ) → moves start a ≡ on q os → (n : ℕ)
+      → move (on q os) t ≡ refusedAt n (t .place) → read ts z ≡ refused n p
+  refused-is a t h q os e n w = rw (h .parts, ← h .place) (refused-read a t (h .after) z q os e n (t .place) w)
 
   four-token-is : FourToken ts p → read ts z ≡ refused unexpected p
   four-token-is (a, t, h, before, not, nor, few) =
       let s : (q : Point) × (os : List ℕ) × moves start a ≡ on q os = begins-on a before in
-      stop-is a t h (s .0) (s .1) (s .2) unexpected (file-stops a t (s .0) (s .1) (s .2) not nor few (move (on (s .0) (s .1)) t) (moved (s .0) (s .1) t) refl)
+      refused-is a t h (s .0) (s .1) (s .2) unexpected (token-refused a t (s .0) (s .1) (s .2) not nor few (move (on (s .0) (s .1)) t) (moved (s .0) (s .1) t) refl)
 
   five-is : Five ts p → read ts z ≡ refused notReal p
   five-is (a, t, h, may, not) =
       let s : (q : Point) × (os : List ℕ) × moves start a ≡ on q os = begins-on a (shorter a (real t ∷ []) may) in
-      stop-is a t h (s .0) (s .1) (s .2) notReal (real-stops a t (s .0) (s .1) (s .2) may not (move (on (s .0) (s .1)) t) (moved (s .0) (s .1) t) refl)
+      refused-is a t h (s .0) (s .1) (s .2) notReal (real-refused a t (s .0) (s .1) (s .2) may not (move (on (s .0) (s .1)) t) (moved (s .0) (s .1) t) refl)
 
   six-is : Six ts p → read ts z ≡ refused tooManyStatements p
   six-is (a, t, h, f) =
       let e : moves start a ≡ on done (f .0) = file-read (f .1 .file) (f .1 .few) in
-      stop-is a t h done (f .0) e tooManyStatements (full-stops a t f done (f .0) e)
+      refused-is a t h done (f .0) e tooManyStatements (full-refused a t f done (f .0) e)
 
-pub says-reader : {ts : List Placed} {z : Last} {v : Answer} → Says ts z v → read ts z ≡ v
+pub says-reader : {ts : List Placed} {z : Last} {v : OffsetsRead} → Says ts z v → read ts z ≡ v
 says-reader {ts} {z} (legal {os = os} w) = file-is ts z 0 os w
 says-reader {ts} {z} (three {p = p} r) = three-is ts z p r
 says-reader {ts} {z} (four-token {p = p} r) = four-token-is ts z p r
@@ -215,14 +220,16 @@ says-reader {ts} {z} (five {p = p} r) = five-is ts z p r
 says-reader {ts} {z} (six {p = p} r) = six-is ts z p r
 
 -- one verdict and no other
-pub one-verdict : {ts : List Placed} {z : Last} {v w : Answer} → Says ts z v → Says ts z w → v ≡ w
+pub one-verdict : {ts : List Placed} {z : Last} {v w : OffsetsRead} → Says ts z v → Says ts z w → v ≡ w
 one-verdict a b = sym (says-reader a) ∙ says-reader b
 
 -- 5 is given at a time or a date only, and one that is not real
 pub five-unreal : (a : List Placed) (t : Placed) → MayStand a (real t) → ¬ MayStand a t → (t .class ≡ unrealTime) ⊎ (t .class ≡ unrealDate)
 five-unreal a t may not = go (isClass (t .class) unrealTime) (isClass (t .class) unrealDate) refl refl may
   where
-    go : (x y : Bool) → isClass (t .class) unrealTime ≡ x → isClass (t .class) unrealDate ≡ y → MayStand a (record { class = cond x time (cond y date (t .class)); place = t .place; end = t .end; said = t .said }) → (t .class ≡ unrealTime) ⊎ (t .class ≡ unrealDate)
+    go : (x y : Bool) → isClass (t .class) unrealTime ≡ x → isClass (t .class) unrealDate ≡ y
+        → MayStand a (record { class = cond x time (cond y date (t .class)); place = t .place; end = t .end; said = t .said })
+        → (t .class ≡ unrealTime) ⊎ (t .class ≡ unrealDate)
     go true y e f m = inl (is-class (t .class) unrealTime e)
     go false true e f m = inr (is-class (t .class) unrealDate f)
     go false false e f m = absurd (not m)

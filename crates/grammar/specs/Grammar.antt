@@ -37,6 +37,10 @@ Each P (e ∷ es) = P e × Each P es
 abbrev pub others : List Edge
 others = on UPLOAD moveFile (on DOWNLOAD moveFile (on GETINFO infoFile (on ABORT abortKind [])))
 
+-- "A missing clause reads as START IMMEDIATE": what ends a statement where its start clause would begin
+abbrev pub noClause : List Edge
+noClause = on semicolon done []
+
 abbrev pub next : Point → List Edge
 -- the first JOB and no other
 next first = on JOB jobName []
@@ -49,7 +53,7 @@ next jobFile = on string ending []
 -- UPLOAD or DOWNLOAD, file spec, then ACTIVE or a file spec or a name, then an optional start clause.
 next moveFile = on string moveSource []
 next moveSource = on ACTIVE moveStart (on string moveStart (on name moveStart []))
-next moveStart = on START startKind (on semicolon done [])
+next moveStart = on START startKind noClause
 -- START IMMEDIATE; START TIME>= time with an optional date; START name, operator, then number or string.
 next startKind = on IMMEDIATE ending (on TIME≥ startTime (on name startOperator []))
 next startTime = on time startDate []

@@ -17,21 +17,21 @@ pub data Last : Type 0 where
   end broken : ℕ → Last
 
 -- the offsets of the statements, or a refusal
-abbrev pub Answer : Type 0
-Answer = Result (List ℕ)
+abbrev pub OffsetsRead : Type 0
+OffsetsRead = Result (List ℕ)
 
 -- ---- Need not be believed: the reading. `proofs/Verdicts` shows that it gives the verdict of `Rows`.
 
 -- after some tokens: the point, and the offsets of the statements begun; or a refusal
 pub data State : Type 0 where
   on : Point → List ℕ → State
-  wrong : ℕ → ℕ → State
+  refusedAt : ℕ → ℕ → State
 
 -- the token t at the point q: 5 where a real one of its shape may stand, else 4
-abbrev pub turn : Point → List ℕ → Placed → State
-turn q os t =
+abbrev pub stepWith : Point → List ℕ → Placed → State
+stepWith q os t =
     cond (isPoint (step q (t .class)) dead)
-    (cond (isPoint (step q (shape (t .class))) dead) (wrong unexpected (t .place)) (wrong notReal (t .place)))
+    (cond (isPoint (step q (shape (t .class))) dead) (refusedAt unexpected (t .place)) (refusedAt notReal (t .place)))
     (on (step q (t .class)) os)
 
 -- the point where a statement begins, after others that begin at os
@@ -41,26 +41,26 @@ opening (o ∷ os) = between
 
 -- a token after the ; of a statement, or at the start: 6 after 64 statements, else it begins one more
 abbrev pub begin : List ℕ → Placed → State
-begin os t = cond (ltb (length os) statements) (turn (opening os) (os ++ (t .place ∷ [])) t) (wrong tooManyStatements (t .place))
+begin os t = cond (ltb (length os) statements) (stepWith (opening os) (os ++ (t .place ∷ [])) t) (refusedAt tooManyStatements (t .place))
 
 abbrev pub move : State → Placed → State
-move (wrong n p) t = wrong n p
-move (on q os) t = cond (isPoint q done) (begin os t) (turn q os t)
+move (refusedAt n p) t = refusedAt n p
+move (on q os) t = cond (isPoint q done) (begin os t) (stepWith q os t)
 
 abbrev pub moves : State → List Placed → State
 moves s [] = s
 moves s (t ∷ ts) = moves (move s t) ts
 
 -- the end of the file is legal where no statement is open, and one is whole
-abbrev pub atEnd : Point → List ℕ → ℕ → Answer
+abbrev pub atEnd : Point → List ℕ → ℕ → OffsetsRead
 atEnd q [] p = refused unexpected p
 atEnd q (o ∷ os) p = cond (isPoint q done) (taken (o ∷ os)) (refused unexpected p)
 
-abbrev pub close : State → Last → Answer
-close (wrong n p) z = refused n p
+abbrev pub close : State → Last → OffsetsRead
+close (refusedAt n p) z = refused n p
 close (on q os) (broken p) = refused noToken p
 close (on q os) (end p) = atEnd q os p
 
 -- what the tokens ts read as, with z after them
-unfoldable pub read : List Placed → Last → Answer
+unfoldable pub read : List Placed → Last → OffsetsRead
 read ts z = close (moves (on done []) ts) z

@@ -8,7 +8,7 @@ use Rattle.counts.specs.Limits.{statements}
 use Rattle.counts.specs.Refusals.{noToken, unexpected, notReal, tooManyStatements}
 use Rattle.grammar.specs.Grammar.{shape}
 use Rattle.grammar.specs.Productions.{Placed, Legal, Begins}
-use Rattle.grammar.specs.Reading.{Last, Answer}
+use Rattle.grammar.specs.Reading.{Last, OffsetsRead}
 use Rattle.grammar.specs.Reading.Last.{end, broken}
 use Rattle.counts.specs.Result.Result.{refused, done as taken}
 
@@ -55,7 +55,7 @@ abbrev pub Whole : List Placed → Last → List ℕ → Type 0
 Whole ts z os = (p : ℕ) × z ≡ end p × Legal ts os
 
 -- The verdict on a file's tokens.
-pub data Says (ts : List Placed) (z : Last) : Answer → Type 0 where
+pub data Says (ts : List Placed) (z : Last) : OffsetsRead → Type 0 where
   file : {os : List ℕ} → Whole ts z os → Says ts z (taken os)
   three : {p : ℕ} → Three ts z p → Says ts z (refused noToken p)
   four-token : {p : ℕ} → FourToken ts p → Says ts z (refused unexpected p)

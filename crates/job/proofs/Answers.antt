@@ -11,7 +11,7 @@ use Rattle.counts.specs.Limits.{fileBytes, statements}
 use Rattle.counts.specs.Refusals.{fileTooLong, tooFewPlaces}
 use Rattle.counts.specs.Result.{Result, counted}
 use Rattle.counts.specs.Result.Result.{refused, done}
-use Rattle.grammar.specs.Reading.{Answer}
+use Rattle.grammar.specs.Reading.{OffsetsRead}
 use Rattle.item.proofs.Lines.{line-tokens}
 use Rattle.job.specs.Job.{onRoom, readJob, filled}
 use Rattle.job.specs.Loop.{jobLoop, foundOf}
@@ -19,7 +19,7 @@ use Rattle.job.specs.declared.Found.{Found}
 use Rattle.job.proofs.Bridge.{by-statements}
 
 -- the answer and the table at exit, of an answer v
-pub both : (s table exit : List ℕ) (v : Answer) (r : Result ℕ) → readJob s (length table) ≡ v → r ≡ counted v → exit ≡ filled v table
+pub both : (s table exit : List ℕ) (v : OffsetsRead) (r : Result ℕ) → readJob s (length table) ≡ v → r ≡ counted v → exit ≡ filled v table
     → (r ≡ counted (readJob s (length table))) × (exit ≡ filled (readJob s (length table)) table)
 both s table exit v r e a b = rw e (a, b)
 

@@ -14,9 +14,9 @@ use Rattle.grammar.specs.Grammar.{Class, classNo, isClass, shape}
 use Rattle.grammar.specs.Grammar.Class.{JOB, date, unrealDate, time, unrealTime}
 use Rattle.grammar.specs.Grammar.Point.{statement, done}
 use Rattle.grammar.specs.Productions.{Placed}
-use Rattle.grammar.specs.Reading.{State, Last, Answer, turn, opening, move, moves, atEnd, close, read}
-use Rattle.grammar.specs.Reading.State.{on, wrong}
-use Rattle.grammar.proofs.Moves.{moves-wrong}
+use Rattle.grammar.specs.Reading.{State, Last, OffsetsRead, stepWith, opening, move, moves, atEnd, close, read}
+use Rattle.grammar.specs.Reading.State.{on, refusedAt}
+use Rattle.grammar.proofs.Moves.{moves-refused}
 use Rattle.grammar.proofs.Apart.{is-class, class-below}
 use Rattle.item.specs.Tokens.{Tokens}
 use Rattle.item.specs.Tokens.Next.{item, ended, none}
@@ -49,11 +49,12 @@ not-job c e = go (isClass c unrealTime) (isClass c unrealDate)
     go false false = e
 
 -- the points of a first statement and of a later one, by the class
-opening-is : (os rs : List ℕ) (t : Placed) → turn (opening os) rs t ≡ byJob os (isClass (t .class) JOB) (turn statement rs t) (wrong unexpected (t .place))
+opening-is : (os rs : List ℕ) (t : Placed)
+    → stepWith (opening os) rs t ≡ byJob os (isClass (t .class) JOB) (stepWith statement rs t) (refusedAt unexpected (t .place))
 opening-is os rs t = go os (isClass (t .class) JOB) refl
   where
     go : (os : List ℕ) (b : Bool) → isClass (t .class) JOB ≡ b
-        → turn (opening os) rs t ≡ byJob os (isClass (t .class) JOB) (turn statement rs t) (wrong unexpected (t .place))
+        → stepWith (opening os) rs t ≡ byJob os (isClass (t .class) JOB) (stepWith statement rs t) (refusedAt unexpected (t .place))
     go [] true e = rw (is-class (t .class) JOB e)
     go [] false e = rw (e, not-job (t .class) e)
     go (o ∷ os) true e = rw (is-class (t .class) JOB e)
@@ -66,15 +67,19 @@ unfolding stepOf
 tested s k t a b f z p q r o = rw (p, q, r, o)
 
 module _ (s : List ℕ) where
-  at-the-end : (t : Item) (p : ℕ) (os : List ℕ) (k : List ℕ → ℕ → Answer) → Shows t (ended p) → onStep (stepOf s (length os) t) os (t .place) k ≡ atEnd done os p
+  at-the-end : (t : Item) (p : ℕ) (os : List ℕ) (k : List ℕ → ℕ → OffsetsRead) → Shows t (ended p)
+      → onStep (stepOf s (length os) t) os (t .place) k ≡ atEnd done os p
   at-the-end t p [] k (the-end c q) =
       ap (λ (x : Step). onStep x [] (t .place) k) (tested s 0 t true _ _ true (ap (λ (n : ℕ). eqb n endNo) c) refl refl refl) ∙ ap (refused unexpected) q
   at-the-end t p (o ∷ os) k (the-end c q) =
-      ap (λ (x : Step). onStep x (o ∷ os) (t .place) k) (tested s (length (o ∷ os)) t true _ _ false (ap (λ (n : ℕ). eqb n endNo) c) refl refl (ne-eqb (length (o ∷ os)) 0 (λ e. omega arith)))
+      ap (λ (x : Step). onStep x (o ∷ os) (t .place) k)
+      (tested s (length (o ∷ os)) t true _ _ false (ap (λ (n : ℕ). eqb n endNo) c) refl refl (ne-eqb (length (o ∷ os)) 0 (λ e. omega arith)))
 
-  at-no-token : (t : Item) (p : ℕ) (os : List ℕ) (k : List ℕ → ℕ → Answer) → Shows t (none p) → onStep (stepOf s (length os) t) os (t .place) k ≡ refused noToken p
+  at-no-token : (t : Item) (p : ℕ) (os : List ℕ) (k : List ℕ → ℕ → OffsetsRead) → Shows t (none p)
+      → onStep (stepOf s (length os) t) os (t .place) k ≡ refused noToken p
   at-no-token t p os k (none-there c q) =
-      ap (λ (x : Step). onStep x os (t .place) k) (tested s (length os) t false true _ _ (ap (λ (n : ℕ). eqb n endNo) c) (ap (λ (n : ℕ). eqb n noneNo) c) refl refl)
+      ap (λ (x : Step). onStep x os (t .place) k)
+      (tested s (length os) t false true _ _ (ap (λ (n : ℕ). eqb n endNo) c) (ap (λ (n : ℕ). eqb n noneNo) c) refl refl)
       ∙ ap (refused noToken) q
 
   not-end : (t : Item) (c : Class) → t .class ≡ classNo c → eqb (t .class) endNo ≡ false
@@ -83,9 +88,11 @@ module _ (s : List ℕ) where
   not-none : (t : Item) (c : Class) → t .class ≡ classNo c → eqb (t .class) noneNo ≡ false
   not-none t c e = ne-eqb (t .class) noneNo (λ x. omega (arith, class-below c))
 
-  full : (t : Item) (u : Placed) (os : List ℕ) (k : List ℕ → ℕ → Answer) → length os ≡ statements → Shows t (item u) → onStep (stepOf s (length os) t) os (t .place) k ≡ refused tooManyStatements (u .place)
+  full : (t : Item) (u : Placed) (os : List ℕ) (k : List ℕ → ℕ → OffsetsRead) → length os ≡ statements → Shows t (item u)
+      → onStep (stepOf s (length os) t) os (t .place) k ≡ refused tooManyStatements (u .place)
   full t u os k l (a-token c p n) =
-      ap (λ (x : Step). onStep x os (t .place) k) (tested s (length os) t false false true _ (not-end t (u .class) c) (not-none t (u .class) c) (eq-eqb _ _ l) refl)
+      ap (λ (x : Step). onStep x os (t .place) k)
+      (tested s (length os) t false false true _ (not-end t (u .class) c) (not-none t (u .class) c) (eq-eqb _ _ l) refl)
       ∙ ap (refused tooManyStatements) p
 
   into : (os : List ℕ) (i : ℕ) (u : Placed) → Shows (itemAt 0 s i) (item u)
@@ -106,26 +113,29 @@ module _ (s : List ℕ) where
   place-is : {t : Item} {u : Placed} → Shows t (item u) → t .place ≡ u .place
   place-is (a-token c p n) = p
 
-  too-many : (os : List ℕ) (t : Placed) → statements ≤ length os → move (on done os) t ≡ wrong tooManyStatements (t .place)
+  too-many : (os : List ℕ) (t : Placed) → statements ≤ length os → move (on done os) t ≡ refusedAt tooManyStatements (t .place)
   too-many os t l = rw (le-ltb (length os) statements l)
 
   -- after a statement that begins with t
-  module _ (left : ℕ) (os : List ℕ) (t : Placed) (ts : List Placed) (z : Last) (n : length os + suc left ≡ statements) (later : (b : ℕ) (rest : List Placed) → Tokens s b rest z → jobLoop s (suc left) (os ++ (t .place ∷ [])) b ≡ close (moves (on done (os ++ (t .place ∷ []))) rest) z) where
-    abbrev goes : Step → Answer
+  module _ (left : ℕ) (os : List ℕ) (t : Placed) (ts : List Placed) (z : Last) (n : length os + suc left ≡ statements)
+      (later : (b : ℕ) (rest : List Placed) → Tokens s b rest z → jobLoop s (suc left) (os ++ (t .place ∷ [])) b ≡ close (moves (on done (os ++ (t .place ∷ []))) rest) z) where
+    abbrev goes : Step → OffsetsRead
     goes x = onStep x os (t .place) (jobLoop s (suc left))
 
-    abbrev so : State → Answer
+    abbrev so : State → OffsetsRead
     so x = close (moves x ts) z
 
-    any-goes : (x : StatementRead) → Reads s statement (os ++ (t .place ∷ [])) (t ∷ ts) z x → goes (stepRead x) ≡ so (turn statement (os ++ (t .place ∷ [])) t)
+    any-goes : (x : StatementRead) → Reads s statement (os ++ (t .place ∷ [])) (t ∷ ts) z x
+        → goes (stepRead x) ≡ so (stepWith statement (os ++ (t .place ∷ [])) t)
     any-goes (Is x b) y = later b (y .0) (y .1) ∙ sym (y .2)
     any-goes (Refused r) y = sym y
 
-    stops : goes (Stop (refusal unexpected (t .place))) ≡ so (wrong unexpected (t .place))
-    stops = sym (ap (λ (x : State). close x z) (moves-wrong unexpected (t .place) ts))
+    stops : goes (Stop (refusal unexpected (t .place))) ≡ so (refusedAt unexpected (t .place))
+    stops = sym (ap (λ (x : State). close x z) (moves-refused unexpected (t .place) ts))
 
-    either : (rs : List ℕ) (b : Bool) (x : Step) → goes x ≡ so (turn statement (os ++ (t .place ∷ [])) t)
-        → goes (byJob rs b x (Stop (refusal unexpected (t .place)))) ≡ so (byJob rs b (turn statement (os ++ (t .place ∷ [])) t) (wrong unexpected (t .place)))
+    either : (rs : List ℕ) (b : Bool) (x : Step) → goes x ≡ so (stepWith statement (os ++ (t .place ∷ [])) t)
+        → goes (byJob rs b x (Stop (refusal unexpected (t .place))))
+        ≡ so (byJob rs b (stepWith statement (os ++ (t .place ∷ [])) t) (refusedAt unexpected (t .place)))
     either [] true x e = e
     either [] false x e = stops
     either (o ∷ rs) true x e = stops
@@ -141,13 +151,14 @@ module _ (s : List ℕ) where
   count os p left n = simp length-append (omega arith)
 
   -- the loop over statements
-  loop : (left : ℕ) {i : ℕ} {ts : List Placed} {z : Last} → Tokens s i ts z → (os : List ℕ) → length os + left ≡ statements → jobLoop s (suc left) os i ≡ close (moves (on done os) ts) z
+  loop : (left : ℕ) {i : ℕ} {ts : List Placed} {z : Last} → Tokens s i ts z → (os : List ℕ) → length os + left ≡ statements
+      → jobLoop s (suc left) os i ≡ close (moves (on done os) ts) z
   unfolding jobLoop
   loop zero {i = i} (at-end {p = p} e) os n = at-the-end (itemAt 0 s i) p os (jobLoop s zero) (rw e at (shows s i))
   loop zero {i = i} (no-token {p = p} e) os n = at-no-token (itemAt 0 s i) p os (jobLoop s zero) (rw e at (shows s i))
   loop zero {i = i} {z = z} (then {t = t} {ts = ts} e r) os n =
       full (itemAt 0 s i) t os (jobLoop s zero) (omega arith) (rw e at (shows s i))
-      ∙ sym (ap (λ (x : State). close x z) (ap (λ (x : State). moves x ts) (too-many os t (omega arith)) ∙ moves-wrong tooManyStatements (t .place) ts))
+      ∙ sym (ap (λ (x : State). close x z) (ap (λ (x : State). moves x ts) (too-many os t (omega arith)) ∙ moves-refused tooManyStatements (t .place) ts))
   loop (suc left) {i = i} (at-end {p = p} e) os n = at-the-end (itemAt 0 s i) p os (jobLoop s (suc left)) (rw e at (shows s i))
   loop (suc left) {i = i} (no-token {p = p} e) os n = at-no-token (itemAt 0 s i) p os (jobLoop s (suc left)) (rw e at (shows s i))
   loop (suc left) {i = i} {z = z} (then {t = t} {ts = ts} e r) os n =

@@ -10,7 +10,7 @@ use Rattle.counts.specs.Refusals.{noToken, unexpected, tooManyStatements, refus
 use Rattle.counts.specs.Result.Result.{refused, done}
 use Rattle.grammar.specs.Grammar.{classNo}
 use Rattle.grammar.specs.Grammar.Class.{JOB}
-use Rattle.grammar.specs.Reading.{Answer}
+use Rattle.grammar.specs.Reading.{OffsetsRead}
 use Rattle.item.specs.Items.{endNo, noneNo, itemAt}
 use Rattle.item.specs.declared.Item.{Item}
 use Rattle.statement.specs.Statement.{statementOf}
@@ -40,17 +40,17 @@ stepOf s k t =
     cond (eqb (t .class) endNo) (cond (eqb k 0) (stop unexpected t) Over)
     (cond (eqb (t .class) noneNo) (stop noToken t) (cond (eqb k statements) (stop tooManyStatements t) (stepInto s k t)))
 
-abbrev pub onStep : Step → List ℕ → ℕ → (List ℕ → ℕ → Answer) → Answer
+abbrev pub onStep : Step → List ℕ → ℕ → (List ℕ → ℕ → OffsetsRead) → OffsetsRead
 onStep Over os place rest = done os
 onStep (Stop r) os place rest = refused (r .number) (r .place)
 onStep (On next) os place rest = rest (os ++ (place ∷ [])) next
 
 -- the rest of a file from the place at on, after statements that begin at os; `left` bounds how many tokens are looked at between statements
-unfoldable pub jobLoop : List ℕ → ℕ → List ℕ → ℕ → Answer
+unfoldable pub jobLoop : List ℕ → ℕ → List ℕ → ℕ → OffsetsRead
 jobLoop s zero os at = refused tooManyStatements at
 jobLoop s (suc left) os at =
     onStep (stepOf s (length os) (itemAt 0 s at)) os (itemAt 0 s at .place) (jobLoop s left)
 
 -- what was found: the offsets of the statements, or the refusal
-abbrev pub foundOf : Found → Answer
+abbrev pub foundOf : Found → OffsetsRead
 foundOf f = cond (f .whole) (done (take (f .count) (f .places))) (refused (f .refusal .number) (f .refusal .place))

@@ -14,7 +14,7 @@ use Rattle.counts.specs.Refusals.{fileTooLong, tooFewPlaces, noToken, unexpecte
 use Rattle.counts.specs.Result.Result.{refused, done}
 use Rattle.grammar.specs.Statement.{Statement}
 use Rattle.grammar.specs.Productions.{File}
-use Rattle.grammar.specs.Reading.{Answer, read}
+use Rattle.grammar.specs.Reading.{OffsetsRead, read}
 use Rattle.grammar.specs.Reading.Last.{end}
 use Rattle.grammar.specs.Rows.{Three, FourToken, FourEnd, Five, Six, Says}
 use Rattle.grammar.specs.Rows.Says.{file, three, four-token, four-end, five, six}
@@ -30,7 +30,7 @@ use Rattle.job_claims.specs.Verdict.{Verdict, Taken, Crowded}
 use Rattle.job_claims.specs.Verdict.Verdict.{too-long, broken, no-room, fits}
 
 module _ (s : List ℕ) (room : ℕ) where
-  judged-room : length s ≤ fileBytes → (v : Answer) → Says (line s .tokens) (line s .last) v → Verdict s room (onRoom room v)
+  judged-room : length s ≤ fileBytes → (v : OffsetsRead) → Says (line s .tokens) (line s .last) v → Verdict s room (onRoom room v)
   judged-room l (refused n p) y = broken l y
   judged-room l (done os) y = go (leb (length os) room) refl
     where
@@ -48,15 +48,15 @@ module _ (s : List ℕ) (room : ℕ) where
       go false e = too-long (leb-false _ _ e)
 
   -- and no other
-  pub only : (v : Answer) → Verdict s room v → readJob s room ≡ v
+  pub only : (v : OffsetsRead) → Verdict s room v → readJob s room ≡ v
   unfolding readJob
   only v (too-long l) = rw (lt-leb _ _ l)
   only v (broken l y) = rw (le-leb _ _ l, says-reader y)
   only v (no-room l y r) = rw (le-leb _ _ l, says-reader y, lt-leb _ _ r)
   only v (fits l y r) = rw (le-leb _ _ l, says-reader y, le-leb _ _ r)
 
-  given : {v : Answer} → readJob s room ≡ v → Verdict s room v
-  given e = subst (λ (v : Answer). Verdict s room v) e judged
+  given : {v : OffsetsRead} → readJob s room ≡ v → Verdict s room v
+  given e = subst (λ (v : OffsetsRead). Verdict s room v) e judged
 
   -- A job file is taken when, and only when, it obeys the grammar and limits and the table has room, and its offsets are those of its
   -- statements.

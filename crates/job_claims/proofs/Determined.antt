@@ -7,7 +7,7 @@ use lib.ListN.{length}
 use Rattle.counts.proofs.Results.{refused-not-done, same-refusal}
 use Rattle.counts.specs.Result.{Result, counted}
 use Rattle.counts.specs.Result.Result.{refused}
-use Rattle.grammar.specs.Reading.{Answer}
+use Rattle.grammar.specs.Reading.{OffsetsRead}
 use Rattle.job.specs.Job.{readJob, filled, jobSays}
 use Rattle.job.specs.Statement.{statementSays}
 use Rattle.job.specs.declared.StatementAt.{StatementAt}
@@ -29,13 +29,13 @@ one-statement-answer (NotRead r) (Read y) e = absurd (refused-not-done e)
 one-statement-answer (NotRead r) (NotRead q) e = ap NotRead (same-refusal (cc) (cc))
 
 -- two results that meet one contract are equal, answer and lent table
-pub job-determined : (v : Answer) (table exit exit′ : List ℕ) (a b : JobAnswer) → (jobSays a ≡ counted v) × (exit ≡ filled v table)
+pub job-determined : (v : OffsetsRead) (table exit exit′ : List ℕ) (a b : JobAnswer) → (jobSays a ≡ counted v) × (exit ≡ filled v table)
     → (jobSays b ≡ counted v) × (exit′ ≡ filled v table) → (a ≡ b) × (exit ≡ exit′)
 job-determined v table exit exit′ a b p q = (one-job-answer a b (p .0 ∙ sym (q .0)), p .1 ∙ sym (q .1))
 
 -- and a refused file leaves the table as it was
 pub refused-table-stays : (s table exit : List ℕ) (n p : ℕ) → readJob s (length table) ≡ refused n p → exit ≡ filled (readJob s (length table)) table → exit ≡ table
-refused-table-stays s table exit n p e x = x ∙ ap (λ (v : Answer). filled v table) e
+refused-table-stays s table exit n p e x = x ∙ ap (λ (v : OffsetsRead). filled v table) e
 
 pub statement-determined : (v : Result StatementAt) (a b : StatementAnswer) → statementSays a ≡ v → statementSays b ≡ v → a ≡ b
 statement-determined v a b p q = one-statement-answer a b (p ∙ sym q)

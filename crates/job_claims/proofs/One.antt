@@ -14,7 +14,7 @@ use Rattle.grammar.specs.Reading.{Last}
 use Rattle.grammar.specs.Reading.Last.{end, broken}
 use Rattle.grammar.specs.Rows.{real, Stands}
 use Rattle.grammar.proofs.Apart.{is-point}
-use Rattle.grammar.proofs.Points.{stays, refuted, elsewhere, walked-any, any-walks}
+use Rattle.grammar.proofs.Points.{classes-append, walk-append, stays, refuted, elsewhere, walked-any, any-walks}
 use Rattle.grammar.proofs.Ways.{finish, finishes}
 use Rattle.grammar.proofs.Viable.{placed, its-classes}
 use Rattle.item.specs.Tokens.{nextItem, Tokens, After}
@@ -28,14 +28,6 @@ use Rattle.statement.proofs.Along.{is-whole, after, on-token, on-end, on-none}
 use Rattle.item.specs.Tokens.After.{here, then}
 use Rattle.job_claims.specs.Rows.{WholeOne, Opens, OneThree, OneFourEnd, OneFourToken, OneFive}
 
-walk-append : (q : Point) (k r : List Class) → walk q (k ++ r) ≡ walk (walk q k) r
-walk-append q [] r = refl
-walk-append q (c ∷ k) r = walk-append (step q c) k r
-
-classes-append : (a b : List Placed) → classes (a ++ b) ≡ classes a ++ classes b
-classes-append [] b = refl
-classes-append (t ∷ a) b = ap (λ (k : List Class). t .class ∷ k) (classes-append a b)
-
 -- where the tokens a lead
 abbrev point : List Placed → Point
 point a = walk statement (classes a)
@@ -47,14 +39,17 @@ point-append a t = ap (walk statement) (classes-append a (t ∷ [])) ∙ walk-ap
 alive : (a : List Placed) → Opens a → isPoint (point a) dead ≡ false
 alive a o =
     elsewhere (point a) dead (classes (o .0)) (stays (classes (o .0)))
-    (ap (λ (q : Point). isPoint q dead) (sym (ap (walk statement) (classes-append a (o .0)) ∙ walk-append statement (classes a) (classes (o .0))) ∙ any-walks (o .1 .1)))
+    (ap (λ (q : Point). isPoint q dead)
+    (sym (ap (walk statement) (classes-append a (o .0)) ∙ walk-append statement (classes a) (classes (o .0))) ∙ any-walks (o .1 .1)))
 
 opens : (a : List Placed) → isPoint (point a) dead ≡ false → Opens a
 opens a e =
     let r : List Placed = placed (finish (point a)) in (
       r,
       walked-any (a ++ r)
-          (ap (walk statement) (classes-append a r) ∙ walk-append statement (classes a) (classes r) ∙ ap (walk (point a)) (its-classes (finish (point a))) ∙ finishes (point a) e),
+          (ap (walk statement) (classes-append a r)
+          ∙ walk-append statement (classes a) (classes r)
+          ∙ ap (walk (point a)) (its-classes (finish (point a))) ∙ finishes (point a) e),
     )
 
 not-opens : (a : List Placed) → isPoint (point a) dead ≡ true → ¬ Opens a
@@ -142,7 +137,8 @@ module _ (s : List ℕ) where
   -- the rows give the reading
   module _ (at : ℕ) (ts : List Placed) (z : Last) (d : Tokens s at ts z) where
     -- from `at` on to the end of the tokens a
-    so-far : {a : List Placed} {j : ℕ} (f : After s at a j) (l : isPoint (point a) dead ≡ false) → (x : Held (point a)) × ends statement tt at ≡ ends (point a) x j
+    so-far : {a : List Placed} {j : ℕ} (f : After s at a j) (l : isPoint (point a) dead ≡ false)
+        → (x : Held (point a)) × ends statement tt at ≡ ends (point a) x j
     so-far f l = along f statement tt l
 
     whole-is : (e : ℕ) → WholeAt s at e → ends statement tt at ≡ whole e
@@ -176,8 +172,10 @@ module _ (s : List ℕ) where
 
     five-is : (p : ℕ) → OneFive ts p → ends statement tt at ≡ refused notReal p
     five-is p (a, t, h, may, bad) =
-        let l : isPoint (step (point a) (shape (t .class))) dead ≡ false = ap (λ (q : Point). isPoint q dead) (sym (point-append a (real t))) ∙ alive (a ++ (real t ∷ [])) may in
-        at-token a t p h (elsewhere (point a) dead (shape (t .class) ∷ []) refl l) (elsewhere (point a) done (shape (t .class) ∷ []) refl l) (dead-after a t bad) false l
+        let l : isPoint (step (point a) (shape (t .class))) dead ≡ false =
+        ap (λ (q : Point). isPoint q dead) (sym (point-append a (real t))) ∙ alive (a ++ (real t ∷ [])) may in
+        at-token a t p h (elsewhere (point a) dead (shape (t .class) ∷ []) refl l)
+        (elsewhere (point a) done (shape (t .class) ∷ []) refl l) (dead-after a t bad) false l
 
     pub says-one : (x : Result ℕ) → Judged s at ts z x → endOf (readFrom 0 s statement tt at) ≡ x
     says-one x (read {e = e} o) = whole-is e o
@@ -195,7 +193,8 @@ module _ (s : List ℕ) where
     one-more a t ts = append-assoc a (t ∷ []) ts
 
     -- a token, by what it leads to
-    module _ (a : List Placed) (t : Placed) (us : List Placed) (z : Last) (l : isPoint (point a) dead ≡ false) (n : isPoint (point a) done ≡ false) (later : StatementRead) where
+    module _ (a : List Placed) (t : Placed) (us : List Placed) (z : Last) (l : isPoint (point a) dead ≡ false) (n : isPoint (point a) done ≡ false)
+        (later : StatementRead) where
       token : (isPoint (step (point a) (t .class)) dead ≡ false → Judged s at (a ++ (t ∷ us)) z (endOf later)) → (x y : Bool)
           → isPoint (step (point a) (t .class)) dead ≡ x → isPoint (step (point a) (shape (t .class))) dead ≡ y
           → Judged s at (a ++ (t ∷ us)) z (endOf (cond x (cond y (Refused (refusal unexpected (t .place))) (Refused (refusal notReal (t .place)))) later))
@@ -238,12 +237,15 @@ module _ (s : List ℕ) where
         unless-done i a (a ++ []) (broken p) h f (λ n. rw (on-none s (point a) h n i p x, append-nil a) (three (opens a l, not-whole a n, refl)))
     judge {i} {z = z} (and-then {t = t} {ts = us} x r) a f h l =
         let k : Held (step (point a) (t .class)) = after (point a) (t .class) (next (point a)) (adds (point a)) (itemAt 0 s i) h in
-        let later : (y : Held (point (a ++ (t ∷ [])))) → isPoint (point (a ++ (t ∷ []))) dead ≡ false → Judged s at (a ++ (t ∷ us)) z (ends (point (a ++ (t ∷ []))) y (t .end)) =
+        let later : (y : Held (point (a ++ (t ∷ [])))) → isPoint (point (a ++ (t ∷ []))) dead ≡ false
+        → Judged s at (a ++ (t ∷ us)) z (ends (point (a ++ (t ∷ []))) y (t .end)) =
         λ y m. rw (one-more a t us) at (judge r (a ++ (t ∷ [])) (after-more f x) y m) in
-        let goes : (y : Held (step (point a) (t .class))) → isPoint (step (point a) (t .class)) dead ≡ false → Judged s at (a ++ (t ∷ us)) z (ends (step (point a) (t .class)) y (t .end)) =
+        let goes : (y : Held (step (point a) (t .class))) → isPoint (step (point a) (t .class)) dead ≡ false
+        → Judged s at (a ++ (t ∷ us)) z (ends (step (point a) (t .class)) y (t .end)) =
         subst (λ (q : Point). (y : Held q) → isPoint q dead ≡ false → Judged s at (a ++ (t ∷ us)) z (ends q y (t .end))) (point-append a t) later in
         unless-done i a (a ++ (t ∷ us)) z h f
-        (λ n. subst (λ (v : StatementRead). Judged s at (a ++ (t ∷ us)) z (endOf v)) (sym (on-token s (point a) h n i t x)) (token a t us z l n _ (goes k) _ _ refl refl))
+        (λ n. subst (λ (v : StatementRead). Judged s at (a ++ (t ∷ us)) z (endOf v)) (sym (on-token s (point a) h n i t x))
+        (token a t us z l n _ (goes k) _ _ refl refl))
 
     pub one-says : {ts : List Placed} {z : Last} → Tokens s at ts z → Judged s at ts z (endOf (readFrom 0 s statement tt at))
     one-says d = judge d [] here tt refl

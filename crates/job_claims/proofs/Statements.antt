@@ -81,7 +81,8 @@ module _ (s : List ℕ) (at : ℕ) where
   unfolding readStatement
   given = go (leb (length s) fileBytes) refl (leb at (length s)) refl
     where
-      go : (a : Bool) → leb (length s) fileBytes ≡ a → (b : Bool) → leb at (length s) ≡ b → Verdict (ends (cond a (cond b (statementIn at (drop at s)) (refused outOfRange 0)) (refused fileTooLong 0)))
+      go : (a : Bool) → leb (length s) fileBytes ≡ a → (b : Bool) → leb at (length s) ≡ b
+          → Verdict (ends (cond a (cond b (statementIn at (drop at s)) (refused outOfRange 0)) (refused fileTooLong 0)))
       go false e b f = too-long (leb-false _ _ e)
       go true e false f = past (leb-true _ _ e) (leb-false _ _ f)
       go true e true f = subst Verdict (sym (in-part (leb-true _ _ f))) (judged (leb-true _ _ e) (leb-true _ _ f) (endOf (readFrom 0 s statement tt at)) (one-says s at (tokens-at s at)))
@@ -136,7 +137,8 @@ module _ (s : List ℕ) (at : ℕ) where
       from : (p : ℕ) → Verdict (refused outOfRange p) → (length s ≤ fileBytes) × (length s < at) × p ≡ 0
       from p (past l m) = (l, m, refl)
 
-  pub statement-three-exactly : (p : ℕ) → readStatement s at ≡ refused noToken p ↔ (length s ≤ fileBytes) × (at ≤ length s) × OneThree (lineAt s at .tokens) (lineAt s at .last) p
+  pub statement-three-exactly : (p : ℕ)
+      → readStatement s at ≡ refused noToken p ↔ (length s ≤ fileBytes) × (at ≤ length s) × OneThree (lineAt s at .tokens) (lineAt s at .last) p
   statement-three-exactly p = (λ e. from (asked e), λ h. told (not-read (h .0) (h .1) (three (h .2))))
     where
       from : Verdict (refused noToken p) → (length s ≤ fileBytes) × (at ≤ length s) × OneThree (lineAt s at .tokens) (lineAt s at .last) p
@@ -148,10 +150,12 @@ module _ (s : List ℕ) (at : ℕ) where
       from : Verdict (refused notReal p) → (length s ≤ fileBytes) × (at ≤ length s) × OneFive (lineAt s at .tokens) p
       from (not-read l m (five r)) = (l, m, r)
 
-  pub statement-four-exactly : (p : ℕ) → readStatement s at ≡ refused unexpected p ↔ (length s ≤ fileBytes) × (at ≤ length s) × (OneFourToken (lineAt s at .tokens) p ⊎ OneFourEnd (lineAt s at .tokens) (lineAt s at .last) p)
+  pub statement-four-exactly : (p : ℕ)
+      → readStatement s at ≡ refused unexpected p ↔ (length s ≤ fileBytes) × (at ≤ length s) × (OneFourToken (lineAt s at .tokens) p ⊎ OneFourEnd (lineAt s at .tokens) (lineAt s at .last) p)
   statement-four-exactly p = (λ e. from (asked e), λ h. told (not-read (h .0) (h .1) (to (h .2))))
     where
-      from : Verdict (refused unexpected p) → (length s ≤ fileBytes) × (at ≤ length s) × (OneFourToken (lineAt s at .tokens) p ⊎ OneFourEnd (lineAt s at .tokens) (lineAt s at .last) p)
+      from : Verdict (refused unexpected p)
+          → (length s ≤ fileBytes) × (at ≤ length s) × (OneFourToken (lineAt s at .tokens) p ⊎ OneFourEnd (lineAt s at .tokens) (lineAt s at .last) p)
       from (not-read l m (four-token r)) = (l, m, inl r)
       from (not-read l m (four-end r)) = (l, m, inr r)
 

@@ -5,12 +5,12 @@ use lib.ListN.{length}
 use Rattle.counts.specs.Limits.{fileBytes}
 use Rattle.counts.specs.Refusals.{fileTooLong, tooFewPlaces}
 use Rattle.counts.specs.Result.Result.{refused, done}
-use Rattle.grammar.specs.Reading.{Answer}
+use Rattle.grammar.specs.Reading.{OffsetsRead}
 use Rattle.grammar.specs.Rows.{Whole, Says}
 use Rattle.item.specs.Tokens.{line}
 
 -- one row for each answer
-pub data Verdict (s : List ℕ) (room : ℕ) : Answer → Type 0 where
+pub data Verdict (s : List ℕ) (room : ℕ) : OffsetsRead → Type 0 where
   too-long : fileBytes < length s → Verdict s room (refused fileTooLong 0)
   broken : {n p : ℕ} → length s ≤ fileBytes → Says (line s .tokens) (line s .last) (refused n p) → Verdict s room (refused n p)
   no-room : {os : List ℕ} → length s ≤ fileBytes → Says (line s .tokens) (line s .last) (done os) → room < length os → Verdict s room (refused tooFewPlaces 0)

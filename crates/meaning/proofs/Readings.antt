@@ -63,7 +63,8 @@ module _ (s : List ℕ) where
   value-read : (i : ℕ) {u : Placed} {x : read.Value} → production.Value u x → nextItem s i ≡ item u → ValueRead i u x
   value-read i (plain k) e = record { value = Number _; says = ap read.number (told i e .number); reads = λ h. along startValue number i h refl e k }
   value-read i (digits k) e = record { value = Number _; says = ap read.number (told i e .number); reads = λ h. along startValue date i h refl e k }
-  value-read i (unreal-digits k) e = record { value = Number _; says = ap read.number (told i e .number); reads = λ h. along startValue unrealDate i h refl e k }
+  value-read i (unreal-digits k) e =
+      record { value = Number _; says = ap read.number (told i e .number); reads = λ h. along startValue unrealDate i h refl e k }
   value-read i (quoted k) e = record { value = Text _; says = ap read.text (told i e .place); reads = λ h. along startValue string i h refl e k }
 
   record SourceRead (i : ℕ) (u : Placed) (x : read.Source) : Type 0 where
@@ -158,7 +159,8 @@ module _ (s : List ℕ) where
     pub says : paperStatement statement ≡ y
     pub reads : statementOf 0 s (itemAt 0 s i) ≡ Is statement e
 
-  other-read : {a : List Placed} {y : read.Statement} → production.Other a y → (z : Placed) → production.Is semicolon z → {i e : ℕ} → After s i (a ++ (z ∷ [])) e
+  other-read : {a : List Placed} {y : read.Statement} → production.Other a y → (z : Placed) → production.Is semicolon z → {i e : ℕ}
+      → After s i (a ++ (z ∷ [])) e
       → StatementReads i e y
   other-read (upload {k = k} {f = f} {x = x} {y = y} g h l r) z j {i} {e} (then a b) =
       let q : MoveRead false (k .end) e (f .place) x y = move-read false h l r z j b in
@@ -184,13 +186,15 @@ module _ (s : List ℕ) where
       record {
         statement = Abort Report _;
         says = ap read.abortReport (name-is (told _ d));
-        reads = any-kind s i ∙ along statement ABORT _ tt refl a g ∙ along abortKind REPORT _ tt refl b h ∙ along abortName name _ Report refl d l ∙ closes _ _ q j;
+        reads =
+            any-kind s i ∙ along statement ABORT _ tt refl a g ∙ along abortKind REPORT _ tt refl b h ∙ along abortName name _ Report refl d l ∙ closes _ _ q j;
       }
   other-read (abort-event g h l) z j {i} (then a (then b (then d (then q here)))) =
       record {
         statement = Abort Event _;
         says = ap read.abortEvent (name-is (told _ d));
-        reads = any-kind s i ∙ along statement ABORT _ tt refl a g ∙ along abortKind EVENT _ tt refl b h ∙ along abortName name _ Event refl d l ∙ closes _ _ q j;
+        reads =
+            any-kind s i ∙ along statement ABORT _ tt refl a g ∙ along abortKind EVENT _ tt refl b h ∙ along abortName name _ Event refl d l ∙ closes _ _ q j;
       }
 
   pub statement-reads : {a : List Placed} {y : read.Statement} → Ended production.Any a y → {i e : ℕ} → After s i a e → StatementReads i e y

@@ -45,7 +45,8 @@ pick-alike : (q : Point) (t : Item) (h : Held q) (r : StatementRead) (k m : (p :
     → pick q es ws t h k r ≡ pick q es ws t h m r
 pick-alike q t h r k m test a [] ws l = refl
 pick-alike q t h r k m test a (e ∷ es) ws l =
-    ap₂ (cond (eqb (t .class) (classNo (e .class)))) (a (e .to) (ws .0 t h) (and-left _ _ l)) (pick-alike q t h r k m test a es (ws .1) (and-right (test (e .to)) _ l))
+    ap₂ (cond (eqb (t .class) (classNo (e .class)))) (a (e .to) (ws .0 t h) (and-left _ _ l))
+    (pick-alike q t h r k m test a es (ws .1) (and-right (test (e .to)) _ l))
 
 pub on-alike : (q : Point) (t : Item) (h : Held q) (k m : (p : Point) → Held p → StatementRead) → ((p : Point) (x : Held p) → k p x ≡ m p x)
     → onItem q h t k ≡ onItem q h t m

@@ -12,7 +12,7 @@ use Rattle.grammar.specs.Reading.{State, Last, moves, atEnd, close}
 use Rattle.grammar.specs.Reading.State.{on}
 use Rattle.grammar.specs.Reading.Last.{end, broken}
 use Rattle.grammar.proofs.Apart.{is-point}
-use Rattle.grammar.proofs.Moves.{moves-wrong}
+use Rattle.grammar.proofs.Moves.{moves-refused}
 use Rattle.item.specs.Tokens.{Tokens}
 use Rattle.item.specs.Tokens.Tokens.{at-end, no-token, then}
 use Rattle.item.specs.Items.{itemAt}
@@ -34,11 +34,12 @@ module _ (s : List ℕ) where
   carry q r os l m z e (Refused r′) y = e ∙ y
 
   -- within a statement, at a token: t is refused here, or the rest is read from the next point
-  module _ (q : Point) (os : List ℕ) (t : Placed) (ts : List Placed) (z : Last) (d : isPoint q done ≡ false) (later : StatementRead) (reads : Reads (step q (t .class)) os ts z later) where
+  module _ (q : Point) (os : List ℕ) (t : Placed) (ts : List Placed) (z : Last) (d : isPoint q done ≡ false) (later : StatementRead)
+      (reads : Reads (step q (t .class)) os ts z later) where
     at-token : (x y : Bool) → isPoint (step q (t .class)) dead ≡ x → isPoint (step q (shape (t .class))) dead ≡ y
         → Reads q os (t ∷ ts) z (cond x (cond y (Refused (refusal unexpected (t .place))) (Refused (refusal notReal (t .place)))) later)
-    at-token true true e f = ap (λ (x : State). close x z) (ap (λ (x : State). moves x ts) (rw (d, e, f)) ∙ moves-wrong unexpected (t .place) ts)
-    at-token true false e f = ap (λ (x : State). close x z) (ap (λ (x : State). moves x ts) (rw (d, e, f)) ∙ moves-wrong notReal (t .place) ts)
+    at-token true true e f = ap (λ (x : State). close x z) (ap (λ (x : State). moves x ts) (rw (d, e, f)) ∙ moves-refused unexpected (t .place) ts)
+    at-token true false e f = ap (λ (x : State). close x z) (ap (λ (x : State). moves x ts) (rw (d, e, f)) ∙ moves-refused notReal (t .place) ts)
     at-token false y e f = carry q (step q (t .class)) os (t ∷ ts) ts z (ap (λ (x : State). close (moves x ts) z) (rw (d, e))) later reads
 
   open-end : (q : Point) (os : List ℕ) (p : ℕ) → isPoint q done ≡ false → atEnd q os p ≡ refused unexpected p

@@ -7,7 +7,7 @@ use mathlib.Core.List.{List, [], _∷_}
 use lib.Dec.{eqb}
 use Rattle.counts.specs.Refusals.{noToken, unexpected, notReal, refusal}
 use Rattle.token.specs.declared.Operator.{Operator}
-use Rattle.grammar.specs.Grammar.{Class, Point, Edge, Each, next, step, classNo, isPoint}
+use Rattle.grammar.specs.Grammar.{Class, Point, Edge, Each, noClause, next, step, classNo, isPoint}
 use Rattle.grammar.specs.Grammar.Class.{number, date, unrealDate, time, unrealTime}
 use Rattle.grammar.specs.Grammar.Point.{first, between, statement, jobName, jobResponse, jobFile, moveFile, moveSource, moveStart, startKind, startTime, startDate, startOperator, startValue, infoFile, abortKind, abortName, ending, done, dead}
 use Rattle.item.specs.Items.{noneNo, itemAt}
@@ -101,6 +101,10 @@ Adds q e = Item → Held q → Held (e .to)
 abbrev valued : (Item → Operand) → Item → Transfer × Part × Operator → Statement
 valued v t (m, n, o) = transferred m (condition n o (v t))
 
+-- "A missing clause reads as START IMMEDIATE"
+abbrev addsNoClause : Each (Adds moveStart) noClause
+addsNoClause = (λ t m. transferred m Immediate, tt)
+
 -- in the order of the edges
 abbrev pub adds : (q : Point) → Each (Adds q) (next q)
 adds first = (λ t h. tt, tt)
@@ -114,8 +118,7 @@ adds moveSource = (
   λ t h. transfer (h .0) (h .1) Active,
   (λ t h. transfer (h .0) (h .1) (File (t .place)), (λ t h. transfer (h .0) (h .1) (Name (partOf t)), tt)),
 )
--- "A missing clause reads as START IMMEDIATE"
-adds moveStart = (λ t m. m, (λ t m. transferred m Immediate, tt))
+adds moveStart = (λ t m. m, addsNoClause)
 adds startKind = (λ t m. transferred m Immediate, (λ t m. m, (λ t m. (m, partOf t), tt)))
 adds startTime = (λ t m. (m, t .value), tt)
 adds startDate = (λ t h. transferred (h .0) (At (h .1) (On (t .value))), (λ t h. transferred (h .0) (At (h .1) Any), tt))

@@ -1,4 +1,4 @@
-// The statements of a job file: one function to a word of the grammar, each from the place where its first token is looked for.
+// The statements of a job file: one function to a point of the grammar, each from the place where its first token is looked for.
 use counts::NO_TOKEN;
 use counts::NOT_REAL;
 use counts::Refusal;
