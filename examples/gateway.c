@@ -212,7 +212,6 @@ static void a_round(void) {
 int main(int argc, char **argv) {
     if (argc != 2 || strlen(argv[1]) > 300) return 2;
     share = argv[1];
-    if (!rb_is_this_version()) return 2;
     must(rb_table_make(table, sizeof table, MAX_SESSIONS), "make");
     while (scanf("%u %u", &date, &time_of_day) == 2) {
         if (rb_is_real_date(date) && rb_is_real_time(time_of_day)) a_round();

@@ -55,7 +55,7 @@ typedef uint64_t rb_result;
 /* The number of a refusal; RB_DONE where there is none. */
 static inline uint32_t rb_refusal_number(rb_result result) { return (uint32_t)(result & 255u); }
 
-/* The place of a refusal with the numbers 3 to 6: a byte of the job file, or its length for the end; 0 where there is none. */
+/* The place of a refusal: for a job file with the numbers 3 to 6 a byte of the file, or its length for the end; 0 for any other. */
 static inline size_t rb_refusal_place(rb_result result) { return (size_t)(result >> 8); }
 
 /* A refusal's number in words, for a log. */
@@ -297,7 +297,7 @@ bool rb_is_sound(const uint8_t *table, size_t table_bytes);
 /* A table's bytes, for who must look into one.
  * Rows of four numbers, each of four bytes, low byte first.
  * Row 0: MaxSessions, the last ticket, the number last taken up, and what is in hand (0, or one more than the session's number).
- * In a fresh table nothing is taken up, and the number last taken up is MaxSessions - 1, so that 0 comes first.
+ * In a fresh table, where none was taken up yet, MaxSessions - 1 stands for the number last taken up, so that 0 comes first.
  * Then for each session 65 rows: its head, and a row for each command.
  * The head: program (0 where the number is open), command count, answers so far, ticket.
  * The row of an answered command: 0 for PROCESSED or one more than the class, the code, date, time.

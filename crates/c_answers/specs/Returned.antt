@@ -6,7 +6,7 @@ use lib.IntN.{ℤ}
 use Rattle.counts.specs.Result.{Result, refused, done}
 use Rattle.session_name.specs.declared.Kind.{Kind}
 use Rattle.job.specs.declared.StatementAt.{StatementAt}
-use Rattle.c_numbers.specs.Statements.{statementNumbers, mantissaOf}
+use Rattle.c_numbers.specs.Statements.{statementNumbers}
 use Rattle.c_numbers.specs.Kinds.{kindNumber}
 
 -- 56 bits tell the places below this apart. No place reaches it: a program on x86-64 or 64-bit Arm has fewer bytes of memory.
@@ -55,8 +55,8 @@ GivesNumbers part a r numbers numbers' = (r ≡ returned a) × (numbers' ≡ lef
 -- of a statement with its own offset and the place after its ;
 abbrev pub GivesStatement : Result StatementAt → ℕ → List ℕ → List ℕ → ℤ → ℤ → Type 0
 GivesStatement a r numbers numbers' mantissa mantissa' =
-    GivesNumbers (λ x. statementNumbers (x .statement) (x .offset) (x .next)) a r numbers numbers'
-    × (mantissa' ≡ leftIn mantissa (λ x. mantissaOf (x .statement)) a)
+    GivesNumbers (λ x. statementNumbers (x .statement) (x .offset) (x .next) .numbers) a r numbers numbers'
+    × (mantissa' ≡ leftIn mantissa (λ x. statementNumbers (x .statement) (x .offset) (x .next) .mantissa) a)
 
 -- The version of the calls that the header declares: one more with each change of a name, a type, a number or a size there.
 abbrev pub version : ℕ

@@ -1,6 +1,5 @@
 // Job files.
 use crate::refusal;
-use c_numbers::statements::mantissa_of;
 use c_numbers::statements::statement_numbers;
 use job::JobAnswer;
 use job::StatementAnswer;
@@ -26,8 +25,11 @@ pub fn give_statement(a: StatementAnswer, numbers: &mut [u64; 20], mantissa: &mu
     match a {
         StatementAnswer::Read(x) => {
             let s = x.statement;
-            *numbers = statement_numbers(s, x.offset, x.next);
-            *mantissa = mantissa_of(s);
+            let all = statement_numbers(s, x.offset, x.next);
+            let n = all.numbers;
+            let m = all.mantissa;
+            *numbers = n;
+            *mantissa = m;
             0
         }
         StatementAnswer::Refused(f) => refusal(f),

@@ -32,7 +32,8 @@ pub fn give_placed(a: Placed, number: &mut u32, ticket: &mut u32) -> u64
 }
 
 pub fn give_taken(a: TakenUp, number: &mut u32, ticket: &mut u32, command: &mut u32) -> u64
-    ensures { λ r. ⌜ GivesTaken (paperTakenUp a) r (now (number .entry)) (now (number .exit)) (now (ticket .entry)) (now (ticket .exit)) (now (command .entry)) (now (command .exit)) ⌝ }
+    ensures { λ r. ⌜ GivesTaken (paperTakenUp a)
+        r (now (number .entry)) (now (number .exit)) (now (ticket .entry)) (now (ticket .exit)) (now (command .entry)) (now (command .exit)) ⌝ }
 {
     match a {
         TakenUp::Given(s, t, c) => {

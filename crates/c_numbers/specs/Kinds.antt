@@ -1,4 +1,4 @@
--- The kinds of document 01 as numbers.
+-- The kind of a session file as a number: 0 for a request, 1 for a response.
 use Prim.Native.Nat.{ℕ}
 use mathlib.Core.Bool.{cond}
 use lib.Dec.{eqb, leb}
@@ -6,12 +6,11 @@ use Rattle.counts.specs.Limits.{sessions}
 use Rattle.session_name.specs.declared.Kind.{Kind}
 use Rattle.session_name.specs.declared.Kind.the-variants.{Request, Response}
 
--- ---- session files: 0 for a request, 1 for a response
-
 abbrev pub kindNumber : Kind → ℕ
 kindNumber Request = 0
 kindNumber Response = 1
 
+-- the kind that a number stands for
 abbrev pub kindGiven : ℕ → Kind
 kindGiven kind = cond (eqb kind 0) Request Response
 

@@ -2,7 +2,7 @@
 -- and a length, and a field that is not there is 0.
 use Prim.Native.Nat.{ℕ}
 use mathlib.Core.List.{List, [], _∷_}
-use lib.IntN.{ℤ, pos}
+use lib.IntN.{pos}
 use Rattle.token.specs.declared.Operator.{Operator}
 use Rattle.token.specs.declared.Operator.the-variants.{Equal, NotEqual, Above, Below, AtLeast, AtMost}
 use Rattle.statement.specs.declared.Part.{Part}
@@ -22,6 +22,7 @@ use Rattle.statement.specs.declared.Statement.the-variants.{Job, Upload, Downlo
 use Rattle.c_numbers.specs.declared.statements.SourceFields.{SourceFields}
 use Rattle.c_numbers.specs.declared.statements.OperandFields.{OperandFields}
 use Rattle.c_numbers.specs.declared.statements.StartFields.{StartFields}
+use Rattle.c_numbers.specs.declared.statements.StatementNumbers.{StatementNumbers}
 
 -- "ACTIVE or a file spec or a name"
 abbrev pub sourceFields : Source → SourceFields
@@ -40,8 +41,8 @@ operatorNumber AtMost = 6
 
 -- "then number or string"
 abbrev pub operandFields : Operand → OperandFields
-operandFields (Number n) = record { kind = 1; quote = 0; scale = n .scale }
-operandFields (Text quote) = record { kind = 2; quote = quote; scale = 0 }
+operandFields (Number n) = record { kind = 1; quote = 0; scale = n .scale; mantissa = n .mantissa }
+operandFields (Text quote) = record { kind = 2; quote = quote; scale = 0; mantissa = pos 0 }
 
 -- "with an optional date": 0 is no real date
 abbrev pub dayNumber : Day → ℕ
@@ -60,6 +61,7 @@ conditionFields c = record {
   operand = operandFields (c .operand) .kind;
   quote = operandFields (c .operand) .quote;
   scale = operandFields (c .operand) .scale;
+  mantissa = operandFields (c .operand) .mantissa;
 }
 
 abbrev pub plainStart : ℕ → ℕ → ℕ → StartFields
@@ -73,6 +75,7 @@ plainStart kind time date = record {
   operand = 0;
   quote = 0;
   scale = 0;
+  mantissa = pos 0;
 }
 
 -- "A start clause is one of three"
@@ -87,29 +90,33 @@ abortedNumber Report = 1
 abortedNumber Event = 2
 
 -- kind, own offset, place after the ;, file spec, name and its length, what is ended; what is moved; the start clause
-abbrev pub numbers : ℕ → ℕ → ℕ → ℕ → Part → ℕ → SourceFields → StartFields → List ℕ
+abbrev pub numbers : ℕ → ℕ → ℕ → ℕ → Part → ℕ → SourceFields → StartFields → StatementNumbers
 numbers kind offset next file name aborted s t =
-    kind ∷
-    offset ∷
-    next ∷
-    file ∷
-    name .place ∷
-    name .length ∷
-    aborted ∷
-    s .kind ∷
-    s .quote ∷
-    s .place ∷
-    s .length ∷
-    t .kind ∷
-    t .time ∷
-    t .date ∷
-    t .parameter ∷
-    t .length ∷
-    t .operator ∷
-    t .operand ∷
-    t .quote ∷
-    t .scale ∷
-    []
+    record {
+      numbers =
+          kind ∷
+          offset ∷
+          next ∷
+          file ∷
+          name .place ∷
+          name .length ∷
+          aborted ∷
+          s .kind ∷
+          s .quote ∷
+          s .place ∷
+          s .length ∷
+          t .kind ∷
+          t .time ∷
+          t .date ∷
+          t .parameter ∷
+          t .length ∷
+          t .operator ∷
+          t .operand ∷
+          t .quote ∷
+          t .scale ∷
+          [];
+      mantissa = t .mantissa;
+    }
 
 abbrev pub noPart : Part
 noPart = record { place = 0; length = 0 }
@@ -117,33 +124,15 @@ noPart = record { place = 0; length = 0 }
 abbrev pub noSource : SourceFields
 noSource = record { kind = 0; quote = 0; place = 0; length = 0 }
 
-abbrev pub movedNumbers : ℕ → ℕ → ℕ → ℕ → Source → Start → List ℕ
+abbrev pub movedNumbers : ℕ → ℕ → ℕ → ℕ → Source → Start → StatementNumbers
 movedNumbers kind offset next file source start = numbers kind offset next file noPart 0 (sourceFields source) (startFields start)
 
-abbrev pub plainNumbers : ℕ → ℕ → ℕ → ℕ → Part → ℕ → List ℕ
+abbrev pub plainNumbers : ℕ → ℕ → ℕ → ℕ → Part → ℕ → StatementNumbers
 plainNumbers kind offset next file name aborted = numbers kind offset next file name aborted noSource (plainStart 0 0 0)
 
-abbrev pub statementNumbers : Statement → ℕ → ℕ → List ℕ
+abbrev pub statementNumbers : Statement → ℕ → ℕ → StatementNumbers
 statementNumbers (Job name response) offset next = plainNumbers 1 offset next response name 0
 statementNumbers (Upload file source start) offset next = movedNumbers 2 offset next file source start
 statementNumbers (Download file source start) offset next = movedNumbers 3 offset next file source start
 statementNumbers (GetInfo file) offset next = plainNumbers 4 offset next file noPart 0
 statementNumbers (Abort what name) offset next = plainNumbers 5 offset next 0 name (abortedNumber what)
-
--- ---- a condition's number: "a signed whole number of at most 16 digits", 0 where there is none
-
-abbrev pub operandMantissa : Operand → ℤ
-operandMantissa (Number n) = n .mantissa
-operandMantissa (Text quote) = pos 0
-
-abbrev pub startMantissa : Start → ℤ
-startMantissa Immediate = pos 0
-startMantissa (At time day) = pos 0
-startMantissa (When c) = operandMantissa (c .operand)
-
-abbrev pub mantissaOf : Statement → ℤ
-mantissaOf (Job name response) = pos 0
-mantissaOf (Upload file source start) = startMantissa start
-mantissaOf (Download file source start) = startMantissa start
-mantissaOf (GetInfo file) = pos 0
-mantissaOf (Abort what name) = pos 0

@@ -10,7 +10,7 @@ use statement::Start;
 use statement::Statement;
 use token::Operator;
 ghost use mathlib.Core.Path.{_≡_};
-ghost use Rattle.c_numbers.specs.Statements.{sourceFields, operatorNumber, operandFields, dayNumber, conditionFields, plainStart, startFields, abortedNumber, movedNumbers, plainNumbers, statementNumbers, operandMantissa, startMantissa, mantissaOf};
+ghost use Rattle.c_numbers.specs.Statements.{sourceFields, operatorNumber, operandFields, dayNumber, conditionFields, plainStart, startFields, abortedNumber, movedNumbers, plainNumbers, statementNumbers};
 
 pub const STATEMENT_JOB: u64 = 1;
 
@@ -68,6 +68,7 @@ pub struct OperandFields {
     pub kind: u64,
     pub quote: u64,
     pub scale: u64,
+    pub mantissa: i64,
 }
 
 pub struct StartFields {
@@ -80,6 +81,13 @@ pub struct StartFields {
     pub operand: u64,
     pub quote: u64,
     pub scale: u64,
+    pub mantissa: i64,
+}
+
+// All fields of a statement.
+pub struct StatementNumbers {
+    pub numbers: [u64; 20],
+    pub mantissa: i64,
 }
 
 fn source_fields(s: Source) -> SourceFields
@@ -128,11 +136,13 @@ fn operand_fields(o: Operand) -> OperandFields
             kind: OPERAND_NUMBER,
             quote: 0,
             scale: n.scale as u64,
+            mantissa: n.mantissa,
         },
         Operand::Text(quote) => OperandFields {
             kind: OPERAND_STRING,
             quote: quote as u64,
             scale: 0,
+            mantissa: 0,
         },
     }
 }
@@ -163,6 +173,7 @@ fn condition_fields(c: Condition) -> StartFields
         operand: operand.kind,
         quote: operand.quote,
         scale: operand.scale,
+        mantissa: operand.mantissa,
     }
 }
 
@@ -180,6 +191,7 @@ fn plain_start(kind: u64, time: u64, date: u64) -> StartFields
         operand: 0,
         quote: 0,
         scale: 0,
+        mantissa: 0,
     }
 }
 
@@ -210,12 +222,12 @@ fn moved_numbers(
     file: usize,
     source: Source,
     start: Start,
-) -> [u64; 20]
+) -> StatementNumbers
     ensures { λ r. ⌜ r ≡ movedNumbers kind offset next file source start ⌝ }
 {
     let s = source_fields(source);
     let t = start_fields(start);
-    [
+    let numbers = [
         kind,
         offset as u64,
         next as u64,
@@ -236,7 +248,11 @@ fn moved_numbers(
         t.operand,
         t.quote,
         t.scale,
-    ]
+    ];
+    StatementNumbers {
+        numbers,
+        mantissa: t.mantissa,
+    }
 }
 
 // Any other statement.
@@ -247,12 +263,12 @@ fn plain_numbers(
     file: usize,
     name: Part,
     aborted: u64,
-) -> [u64; 20]
+) -> StatementNumbers
     ensures { λ r. ⌜ r ≡ plainNumbers kind offset next file name aborted ⌝ }
 {
     let place = name.place as u64;
     let length = name.length as u64;
-    [
+    let numbers = [
         kind,
         offset as u64,
         next as u64,
@@ -273,10 +289,14 @@ fn plain_numbers(
         0,
         0,
         0,
-    ]
+    ];
+    StatementNumbers {
+        numbers,
+        mantissa: 0,
+    }
 }
 
-pub fn statement_numbers(s: Statement, offset: usize, next: usize) -> [u64; 20]
+pub fn statement_numbers(s: Statement, offset: usize, next: usize) -> StatementNumbers
     ensures { λ r. ⌜ r ≡ statementNumbers s offset next ⌝ }
 {
     match s {
@@ -317,50 +337,5 @@ pub fn statement_numbers(s: Statement, offset: usize, next: usize) -> [u64; 20]
             name,
             aborted_number(what),
         ),
-    }
-}
-
-fn operand_mantissa(o: Operand) -> i64
-    ensures { λ r. ⌜ r ≡ operandMantissa o ⌝ }
-{
-    match o {
-        Operand::Number(n) => n.mantissa,
-        Operand::Text(_) => 0,
-    }
-}
-
-fn start_mantissa(s: Start) -> i64
-    ensures { λ r. ⌜ r ≡ startMantissa s ⌝ }
-{
-    match s {
-        Start::Immediate => 0,
-        Start::At(_, _) => 0,
-        Start::When(c) => {
-            let o = c.operand;
-            operand_mantissa(o)
-        }
-    }
-}
-
-pub fn mantissa_of(s: Statement) -> i64
-    ensures { λ r. ⌜ r ≡ mantissaOf s ⌝ }
-{
-    match s {
-        Statement::Job {
-            name: _,
-            response: _,
-        } => 0,
-        Statement::Upload {
-            file: _,
-            source: _,
-            start,
-        } => start_mantissa(start),
-        Statement::Download {
-            file: _,
-            source: _,
-            start,
-        } => start_mantissa(start),
-        Statement::GetInfo { file: _ } => 0,
-        Statement::Abort { what: _, name: _ } => 0,
     }
 }

@@ -24,7 +24,8 @@ pub extern "C" fn rb_read_statement_numbers(
     numbers: &mut [u64; 20],
     mantissa: &mut i64,
 ) -> u64
-    ensures { λ r. ⌜ GivesStatement (readStatement (now (file .entry)) at) r (now (numbers .entry)) (now (numbers .exit)) (now (mantissa .entry)) (now (mantissa .exit)) ⌝ }
+    ensures { λ r. ⌜ GivesStatement (readStatement (now (file .entry)) at)
+        r (now (numbers .entry)) (now (numbers .exit)) (now (mantissa .entry)) (now (mantissa .exit)) ⌝ }
 {
     give_statement(job::read_statement(file, at), numbers, mantissa)
 }

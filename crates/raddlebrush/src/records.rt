@@ -23,7 +23,8 @@ pub extern "C" fn rb_write_record(
     out: &mut [u8],
     used: &mut usize,
 ) -> u64
-    ensures { λ r. ⌜ GivesCount (written commands (content number (outcomeGiven outcome class code) (now (text .entry)) date time) (now (out .entry))) r (now (used .entry)) (now (used .exit))
+    ensures { λ r. ⌜ GivesCount (written commands (content number (outcomeGiven outcome class code) (now (text .entry)) date time) (now (out .entry)))
+        r (now (used .entry)) (now (used .exit))
         × (now (out .exit) ≡ writtenBytes commands (content number (outcomeGiven outcome class code) (now (text .entry)) date time) (now (out .entry))) ⌝ }
 {
     let o = outcome_given(outcome, class, code);

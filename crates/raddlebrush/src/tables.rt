@@ -30,7 +30,8 @@ pub extern "C" fn rb_table_place(
     number: &mut u32,
     ticket: &mut u32,
 ) -> u64
-    ensures { λ r. ⌜ GivesPlaced (placing (now (table .entry)) program commands) r (now (number .entry)) (now (number .exit)) (now (ticket .entry)) (now (ticket .exit))
+    ensures { λ r. ⌜ GivesPlaced (placing (now (table .entry)) program commands)
+        r (now (number .entry)) (now (number .exit)) (now (ticket .entry)) (now (ticket .exit))
         × (now (table .exit) ≡ placedBytes (now (table .entry)) program commands) ⌝ }
 {
     give_placed(
@@ -47,7 +48,8 @@ pub extern "C" fn rb_table_take_up(
     ticket: &mut u32,
     command: &mut u32,
 ) -> u64
-    ensures { λ r. ⌜ GivesTaken (takingUp (now (table .entry))) r (now (number .entry)) (now (number .exit)) (now (ticket .entry)) (now (ticket .exit)) (now (command .entry)) (now (command .exit))
+    ensures { λ r. ⌜ GivesTaken (takingUp (now (table .entry)))
+        r (now (number .entry)) (now (number .exit)) (now (ticket .entry)) (now (ticket .exit)) (now (command .entry)) (now (command .exit))
         × (now (table .exit) ≡ takenBytes (now (table .entry))) ⌝ }
 {
     give_taken(session_table::take_up(table), number, ticket, command)

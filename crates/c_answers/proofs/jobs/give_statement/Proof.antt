@@ -9,9 +9,6 @@ enum-known-a c = search needs
 statement-numbers-requires : tie.Need-statement-numbers-requires
 statement-numbers-requires c κs = search needs
 
-mantissa-of-requires : tie.Need-mantissa-of-requires
-mantissa-of-requires c κs = search needs
-
 enum-known-a-2 : tie.Need-enum-known-a-2
 enum-known-a-2 c = search needs
 
@@ -19,7 +16,9 @@ refusal-requires : tie.Need-refusal-requires
 refusal-requires c κs = search needs
 
 returns : tie.Need-returns
-returns c = rw (c .before .before .before .a .given .1) ((refl, c .before .statement-numbers .ensures), search needs)
+returns c =
+    rw (c .before .before .before .before .a .given .1, ← c .before .before .statement-numbers .ensures)
+    ((refl, search needs), search needs)
 
 returns-2 : tie.Need-returns-2
 returns-2 c = rw (c .before .before .a2 .given .1) ((c .refusal .ensures, refl), refl)
@@ -30,7 +29,6 @@ give-statement-spec =
     (tie.spec
     enum-known-a
     statement-numbers-requires
-    mantissa-of-requires
     enum-known-a-2
     refusal-requires
     returns

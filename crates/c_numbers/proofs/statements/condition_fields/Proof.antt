@@ -9,7 +9,7 @@ operator-number-requires : tie.Need-operator-number-requires
 operator-number-requires c κs = search needs
 
 returns : tie.Need-returns
-returns c = rw (c .operator-number .ensures, c .before .operand-fields .ensures)
+returns c = rw (← c .before .operator-number .ensures, ← c .before .before .operand-fields .ensures) (search needs)
 
 pub condition-fields-spec : {M : Type 1} → statement M
 condition-fields-spec =

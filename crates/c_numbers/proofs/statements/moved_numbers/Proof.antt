@@ -9,7 +9,7 @@ start-fields-requires : tie.Need-start-fields-requires
 start-fields-requires c κs = search needs
 
 returns : tie.Need-returns
-returns c = rw (c .start-fields .ensures, c .before .source-fields .ensures)
+returns c = rw (← c .before .start-fields .ensures, ← c .before .before .source-fields .ensures) (search needs)
 
 pub moved-numbers-spec : {M : Type 1} → statement M
 moved-numbers-spec = tie.close (tie.spec source-fields-requires start-fields-requires returns)

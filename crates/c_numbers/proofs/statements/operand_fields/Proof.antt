@@ -12,7 +12,7 @@ enum-known-o-2 : tie.Need-enum-known-o-2
 enum-known-o-2 c = search needs
 
 returns : tie.Need-returns
-returns c = rw (c .before .before .o .given .1)
+returns c = rw (c .before .before .before .o .given .1) (search needs)
 
 returns-2 : tie.Need-returns-2
 returns-2 c = rw (c .before .o2 .given .1)
