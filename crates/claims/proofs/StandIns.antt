@@ -11,7 +11,8 @@ use Rattle.counts.specs.Result.{Result, done}
 use Rattle.counts.proofs.Results.{refused-not-done}
 use Rattle.decimal.specs.Digits.{digits, widthFrom, plainWidth, plain}
 use Rattle.scan.specs.Run.{run}
-use Rattle.record.specs.Record.{isReal, momentBytes, recordBytes}
+use Rattle.moment.specs.Moment.{realMoment, momentBytes}
+use Rattle.record.specs.Record.{recordBytes}
 use Rattle.record.specs.declared.Outcome.the-variants.{Processed}
 use Rattle.sessions.proofs.Owing.{length-numbered}
 use Rattle.sessions.proofs.Past.{head-same, gather-append}
@@ -77,7 +78,7 @@ unfolding stepBytes stepWithout table freshState isOpen isWaiting find put place
 gives-first = took-so (gives 2 (omega arith) (omega arith) placing-one kept-one toTakeUp refl)
 
 pub hands-over-first : calls.collecting (of-two answering-one) 1 1 (length output) ≡ done (records (numbered 1 (processed ∷ [])))
-unfolding stepWithout table freshState isOpen isWaiting isReady find put names placeIn place takeNext takeHand takeUp answerHand answer collectFrom collect numbered records isReal februaryLength monthLength realDate realTime digits widthFrom plainWidth plain momentBytes recordBytes
+unfolding stepWithout table freshState isOpen isWaiting isReady find put names placeIn place takeNext takeHand takeUp answerHand answer collectFrom collect numbered records realMoment februaryLength monthLength realDate realTime digits widthFrom plainWidth plain momentBytes recordBytes
 hands-over-first =
     collecting-is (of-two answering-one) (sound-after 2 (omega arith) (omega arith) answering-one kept) 1 1 output
     ∙ ap (λ (σ : State). collect σ 1 1 (length output) .0) (holds 2 (omega arith) (omega arith) answering-one kept)

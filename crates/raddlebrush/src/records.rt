@@ -3,13 +3,13 @@ use crate::refusal;
 use counts::CLASS_MOST;
 use counts::CommandNumber;
 use record::Outcome;
-use record::Record;
-use record::RecordRead;
 use record::Written;
+use record_read::Record;
+use record_read::RecordRead;
 ghost use mathlib.Core.Path.{_≡_};
 ghost use Rattle.counts.specs.Limits.{commands};
 ghost use Rattle.record.specs.Record.{content};
-ghost use Rattle.record.specs.Reading.{recordRead, readSays};
+ghost use Rattle.record_read.specs.Reading.{recordRead, readSays};
 ghost use Rattle.record.specs.Writing.{written, writtenBytes, writeSays};
 ghost use Rattle.raddlebrush.specs.Records.{outcomeOf, outcomeNumber, classNumber, codeNumber, recordNumbers};
 ghost use Rattle.raddlebrush.specs.Returned.{GivesCount, GivesFields};
@@ -130,5 +130,5 @@ fn give_record(a: RecordRead, fields: &mut [u64; 8]) -> u32
 pub extern "C" fn rb_read_record(bytes: &[u8], fields: &mut [u64; 8]) -> u32
     ensures { λ r. ⌜ GivesFields recordNumbers (recordRead commands (now (bytes .entry))) r (now (fields .entry)) (now (fields .exit)) ⌝ }
 {
-    give_record(record::read_record(bytes), fields)
+    give_record(record_read::read_record(bytes), fields)
 }
