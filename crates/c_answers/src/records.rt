@@ -1,9 +1,9 @@
 // Response records.
 use crate::refusal;
 use c_numbers::records::record_numbers;
-use record::RecordRead;
+use record_read::RecordRead;
 use record::Written;
-ghost use Rattle.record.specs.Reading.{readSays};
+ghost use Rattle.record_read.specs.Reading.{readSays};
 ghost use Rattle.record.specs.Writing.{writeSays};
 ghost use Rattle.c_numbers.specs.Records.{recordNumbers};
 ghost use Rattle.c_answers.specs.Returned.{GivesCount, GivesNumbers};

@@ -6,7 +6,7 @@ use lib.Dec.{eqb}
 use Rattle.counts.specs.Limits.{classMost}
 use Rattle.record.specs.declared.Outcome.{Outcome}
 use Rattle.record.specs.declared.Outcome.the-variants.{Processed, Error}
-use Rattle.record.specs.declared.Record.{Record}
+use Rattle.record_read.specs.declared.Record.{Record}
 use Rattle.sessions.specs.declared.Answer.{Answer}
 
 -- 0 for PROCESSED, 1 for ERROR; a number that is neither gets a class out of its range

@@ -1,7 +1,7 @@
 // Outcomes and records.
 use counts::CLASS_MOST;
 use record::Outcome;
-use record::Record;
+use record_read::Record;
 ghost use mathlib.Core.Path.{_≡_};
 ghost use Rattle.c_numbers.specs.Records.{outcomeGiven, outcomeNumber, classNumber, codeNumber, recordNumbers};
 

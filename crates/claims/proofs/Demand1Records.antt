@@ -10,21 +10,23 @@ use borrow.Author.Tests.{le-leb, lt-leb, leb-true, leb-false}
 use Rattle.counts.specs.Refusals.{notReal, notARecord, tooLittleRoom}
 use Rattle.counts.proofs.Results.{refused-not-done}
 use Rattle.counts.specs.Result.{Result, refused, done}
-use Rattle.record.specs.Record.{Content, isReal, recordBytes}
-use Rattle.record.specs.Reading.{recordRead, readSays, contentOf, withText}
+use Rattle.moment.specs.Moment.{realMoment}
+use Rattle.record.specs.Record.{Content, recordBytes}
+use Rattle.record_read.specs.Reading.{recordRead, readSays, contentOf, withText}
 use Rattle.record.specs.Writing.{writeRefusal, written, writtenBytes, writeSays}
-use Rattle.record.specs.declared.Record.{Record}
-use Rattle.record.proofs.RoundTrip.{read-exactly, only-seven}
-use Rattle.record.proofs.Says.{read-says-all, write-says-all}
+use Rattle.record_read.specs.declared.Record.{Record}
+use Rattle.record_read.proofs.RoundTrip.{read-exactly, only-seven}
+use Rattle.record.proofs.Says.{write-says-all}
+use Rattle.record_read.proofs.Says.{read-says-all}
 use Rattle.claims.specs.Exactly.{Exactly, OneResult}
 use Rattle.claims.specs.RecordRows.{fieldsInRange, WriteRow, seven, five, eight, record-written, ReadRow, record-read, no-record}
 use Rattle.claims.proofs.Demand1.{refused-stays, one-result}
 
 write-rows : (limit : ℕ) (c : Content) (out : List ℕ) → WriteRow limit c (length out) (written limit c out)
 unfolding written writeRefusal
-write-rows limit c out = go (fieldsInRange limit c) (isReal (c .date) (c .time)) (leb (length (recordBytes c)) (length out)) refl refl refl
+write-rows limit c out = go (fieldsInRange limit c) (realMoment (c .date) (c .time)) (leb (length (recordBytes c)) (length out)) refl refl refl
   where
-    go : (t u v : Bool) → fieldsInRange limit c ≡ t → isReal (c .date) (c .time) ≡ u → leb (length (recordBytes c)) (length out) ≡ v
+    go : (t u v : Bool) → fieldsInRange limit c ≡ t → realMoment (c .date) (c .time) ≡ u → leb (length (recordBytes c)) (length out) ≡ v
         → let no = cond t (cond u (cond v 0 tooLittleRoom) notReal) notARecord in
         WriteRow limit c (length out) (cond (eqb no 0) (done (length (recordBytes c))) (refused no 0))
     go true true true p q r = record-written p q (leb-true _ _ r)

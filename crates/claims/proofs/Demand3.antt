@@ -11,7 +11,7 @@ use Rattle.counts.specs.Limits.{commands}
 use Rattle.counts.specs.Refusals.{outOfRange, unsound}
 use Rattle.counts.specs.Result.{refused, done}
 use Rattle.field.specs.Part.{part}
-use Rattle.record.proofs.RoundTrip.{read-exactly}
+use Rattle.record_read.proofs.RoundTrip.{read-exactly}
 use Rattle.record.specs.Record.{content, isOutcome, isText, inRange, permitted}
 use Rattle.scan.specs.Run.{run, runEnd}
 use Rattle.sessions.proofs.Agrees.{Agrees, fresh-agrees, agrees}

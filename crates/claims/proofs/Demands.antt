@@ -16,10 +16,10 @@ use Rattle.session_name.specs.Name as name
 use Rattle.session_name.specs.declared.Kind.{Kind}
 use Rattle.session_name.proofs.RoundTrip as names
 use Rattle.record.specs.Record.{Content, recordBytes}
-use Rattle.record.specs.Reading.{recordRead, contentOf, withText, textOf}
+use Rattle.record_read.specs.Reading.{recordRead, contentOf, withText, textOf}
 use Rattle.record.specs.Writing as writing
-use Rattle.record.specs.declared.Record.{Record}
-use Rattle.record.proofs.RoundTrip as records
+use Rattle.record_read.specs.declared.Record.{Record}
+use Rattle.record_read.proofs.RoundTrip as records
 use Rattle.grammar.specs.Reading.{OffsetsRead as Reading}
 use Rattle.item.proofs.Lines.{tokens-at}
 use Rattle.item.proofs.Moments.{date-says, no-other-date, time-says}

@@ -14,7 +14,8 @@ use Rattle.item.specs.Tokens.{abortClass, clauseClass, wordClass, numberClass, 
 use Rattle.grammar.specs.Reading.{read}
 use Rattle.job.specs.Job.{readJob}
 use Rattle.number.specs.Number.{digitsOf, scaleOf, numberOf}
-use Rattle.record.specs.Record.{momentBytes, recordBytes}
+use Rattle.moment.specs.Moment.{momentBytes}
+use Rattle.record.specs.Record.{recordBytes}
 use Rattle.calendar.specs.Calendar.{februaryLength, monthLength, realDate, realTime}
 use Rattle.session_name.specs.Name.{kindRead, numberRead, nameRead}
 use Rattle.claims.specs.Examples.{Row, examples, allHold}

@@ -8,7 +8,8 @@ use lib.ListN.{length}
 use Rattle.counts.specs.Refusals.{outOfRange}
 use Rattle.counts.specs.Result.{refused, done}
 use Rattle.decimal.specs.Digits.{digits, widthFrom, plainWidth, plain}
-use Rattle.record.specs.Record.{momentBytes, recordBytes}
+use Rattle.moment.specs.Moment.{momentBytes}
+use Rattle.record.specs.Record.{recordBytes}
 use Rattle.record.specs.declared.Outcome.the-variants.{Error}
 use Rattle.sessions.specs.History.{Call, toMake, toPlace, toTakeUp, toAnswer, toCollect, made, placed, tookUp, answered, collected, gather, collection, accepted}
 use Rattle.sessions.specs.Runs.{reached, historyOf, neverAnew}

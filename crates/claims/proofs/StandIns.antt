@@ -11,7 +11,8 @@ use Rattle.counts.specs.Result.{Result, done}
 use Rattle.counts.proofs.Results.{refused-not-done}
 use Rattle.decimal.specs.Digits.{digits, widthFrom, plainWidth, plain}
 use Rattle.scan.specs.Run.{run}
-use Rattle.record.specs.Record.{isReal, momentBytes, recordBytes}
+use Rattle.moment.specs.Moment.{realMoment, momentBytes}
+use Rattle.record.specs.Record.{recordBytes}
 use Rattle.record.specs.declared.Outcome.the-variants.{Processed}
 use Rattle.sessions.proofs.Owing.{length-numbered}
 use Rattle.sessions.proofs.Did.{stepTable}
@@ -82,7 +83,7 @@ unfolding stepBytes stepTable reached freshState isOpen isWaiting find put place
 gives-first = took-so (gives placing-one toTakeUp)
 
 pub hands-over-first : calls.collecting (of-two answering-one) 1 1 (length output) ≡ done (records (numbered 1 (processed ∷ [])))
-unfolding stepTable reached freshState isOpen isWaiting isReady find put names placeIn place takeNext takeHand takeUp answerHand answer collectFrom collect numbered records isReal februaryLength monthLength realDate realTime digits widthFrom plainWidth plain momentBytes recordBytes
+unfolding stepTable reached freshState isOpen isWaiting isReady find put names placeIn place takeNext takeHand takeUp answerHand answer collectFrom collect numbered records realMoment februaryLength monthLength realDate realTime digits widthFrom plainWidth plain momentBytes recordBytes
 hands-over-first =
     let w = same answering-one .stands in
     collecting-is (of-two answering-one) (w .sound) 1 1 output ∙ ap (λ (σ : State). collect σ 1 1 (length output) .0) (w .table)

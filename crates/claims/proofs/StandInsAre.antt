@@ -12,7 +12,8 @@ use Rattle.counts.specs.Refusals.{unexpected, allTaken, notTheOne, nothingUnans
 use Rattle.counts.specs.Result.{Result, refused, done, counted}
 use Rattle.decimal.specs.Digits.{digits, widthFrom, plainWidth, plain}
 use Rattle.statement.specs.declared.Statement.the-variants.{GetInfo}
-use Rattle.record.specs.Record.{isReal, momentBytes, recordBytes}
+use Rattle.moment.specs.Moment.{realMoment, momentBytes}
+use Rattle.record.specs.Record.{recordBytes}
 use Rattle.sessions.proofs.Did.{stepTable}
 use Rattle.sessions.specs.Find.{find, put}
 use Rattle.sessions.specs.History.{Call, toMake, toPlace, toTakeUp, toAnswer, toCollect, Event, made, placed, tookUp, answered, collected, written, gather, collection, accepted}
@@ -53,15 +54,15 @@ second-events : Answer → List Event
 second-events a = answered 2 1 a (done tt) ∷ tookUp (done (1, 2, 1)) ∷ placed 2 1 (done (1, 2)) ∷ first-events
 
 serves-first : historyOf (freshBytes 2) stepBytes answering-one ≡ first-events
-unfolding first-events historyOf reached stepTable freshState isOpen isWaiting find put names placeIn place takeNext takeHand takeUp answerHand answer isReal februaryLength monthLength realDate realTime
+unfolding first-events historyOf reached stepTable freshState isOpen isWaiting find put names placeIn place takeNext takeHand takeUp answerHand answer realMoment februaryLength monthLength realDate realTime
 serves-first = same answering-one .history
 
 serves-processed : historyOf (freshBytes 2) stepBytes (second processed) ≡ second-events processed
-unfolding first-events second-events second historyOf reached stepTable freshState isOpen isWaiting find put names placeIn place takeNext takeHand takeUp answerHand answer isReal februaryLength monthLength realDate realTime
+unfolding first-events second-events second historyOf reached stepTable freshState isOpen isWaiting find put names placeIn place takeNext takeHand takeUp answerHand answer realMoment februaryLength monthLength realDate realTime
 serves-processed = same (second processed) .history
 
 serves-failed : historyOf (freshBytes 2) stepBytes (second failed) ≡ second-events failed
-unfolding first-events second-events second historyOf reached stepTable freshState isOpen isWaiting find put names placeIn place takeNext takeHand takeUp answerHand answer isReal februaryLength monthLength realDate realTime
+unfolding first-events second-events second historyOf reached stepTable freshState isOpen isWaiting find put names placeIn place takeNext takeHand takeUp answerHand answer realMoment februaryLength monthLength realDate realTime
 serves-failed = same (second failed) .history
 
 is-second : (a : Answer) {h : List Event} → h ≡ second-events a → Request h 2 2 (a ∷ [])

@@ -18,10 +18,10 @@ use Rattle.decimal.specs.Digits.{digits, value, plainWidth}
 use Rattle.session_name.specs.Name as name
 use Rattle.session_name.specs.declared.Kind.{Kind}
 use Rattle.record.specs.Record.{Content, content, permitted, recordBytes, fixedLength}
-use Rattle.record.specs.Reading as reading
-use Rattle.record.specs.Reading.{recordRead, contentOf, withText, textOf}
+use Rattle.record_read.specs.Reading as reading
+use Rattle.record_read.specs.Reading.{recordRead, contentOf, withText, textOf}
 use Rattle.record.specs.Writing as writing
-use Rattle.record.specs.declared.Record.{Record}
+use Rattle.record_read.specs.declared.Record.{Record}
 use Rattle.grammar.specs.Grammar.Class.{number as noDate, date, unrealDate}
 use Rattle.grammar.specs.Statement.{Statement}
 use Rattle.grammar.specs.Productions.{Placed, File, Begins}

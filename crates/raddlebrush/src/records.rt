@@ -6,7 +6,7 @@ use counts::CommandNumber;
 ghost use mathlib.Core.Path.{_≡_};
 ghost use Rattle.counts.specs.Limits.{commands};
 ghost use Rattle.record.specs.Record.{content};
-ghost use Rattle.record.specs.Reading.{recordRead};
+ghost use Rattle.record_read.specs.Reading.{recordRead};
 ghost use Rattle.record.specs.Writing.{written, writtenBytes};
 ghost use Rattle.c_numbers.specs.Records.{outcomeGiven, recordNumbers};
 ghost use Rattle.c_answers.specs.Returned.{GivesCount, GivesNumbers};
@@ -38,5 +38,5 @@ pub extern "C" fn rb_write_record(
 pub extern "C" fn rb_read_record_numbers(bytes: &[u8], numbers: &mut [u64; 8]) -> u64
     ensures { λ r. ⌜ GivesNumbers recordNumbers (recordRead commands (now (bytes .entry))) r (now (numbers .entry)) (now (numbers .exit)) ⌝ }
 {
-    give_record(record::read_record(bytes), numbers)
+    give_record(record_read::read_record(bytes), numbers)
 }

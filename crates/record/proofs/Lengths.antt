@@ -1,11 +1,13 @@
 -- "Length: PROCESSED 42, ERROR 50, plus the digits of n and the bytes of text."
-use Prim.Native.Nat.{ℕ, _+_, _≤_}
+use Prim.Native.Nat.{ℕ, _+_, _≤_, _<_}
 use mathlib.Core.Path.{_≡_, refl}
 use native.Mathlib.Omega.{arith}
 use lib.ListN.{length, length-append}
 use Rattle.decimal.specs.Digits.{plainWidth, plain}
 use Rattle.decimal.proofs.Laws.{length-digits}
-use Rattle.record.specs.Record.{Content, outcomeBytes, timeBytes, momentBytes, momentLength, recordBytes, fixedLength}
+use Rattle.decimal.proofs.PlainLaws.{plain-le}
+use Rattle.moment.proofs.Moments.{length-moment}
+use Rattle.record.specs.Record.{Content, outcomeBytes, recordBytes, fixedLength}
 use Rattle.record.specs.declared.Outcome.{Outcome}
 use Rattle.record.specs.declared.Outcome.the-variants.{Processed, Error}
 
@@ -21,20 +23,17 @@ length-outcome (Error class code) = simp (length-append, length-digits) (omega a
 pub error-room : (class code at len : ℕ) → at + length (outcomeBytes (Error class code)) ≤ len → at + 20 ≤ len
 error-room class code at len h = omega (arith, length-outcome (Error class code))
 
+-- a number of 32 bits has at most ten digits
+pub ten-digits : (n w : ℕ) → n < 4294967296 → w ≡ plainWidth n → w ≤ 10
+ten-digits n w h e = omega (arith, plain-le n 10 (omega arith) (omega arith))
+
 pub length-plain : (n : ℕ) → length (plain n) ≡ plainWidth n
 unfolding plain
 length-plain n = length-digits (plainWidth n) n
 
-pub length-time : (time : ℕ) → length (timeBytes time) ≡ 8
-length-time time = simp (length-append, length-digits) (omega arith)
-
-pub length-moment : (date time : ℕ) → length (momentBytes date time) ≡ momentLength
-unfolding momentBytes
-length-moment date time = simp (length-append, length-digits) (omega arith)
-
 -- a record's fields, one after the other
 pub length-fields : (c : Content)
-    → length (recordBytes c) ≡ 8 + plainWidth (c .number) + length (outcomeBytes (c .outcome)) + length (c .text) + momentLength
+    → length (recordBytes c) ≡ 8 + plainWidth (c .number) + length (outcomeBytes (c .outcome)) + length (c .text) + 22
 unfolding recordBytes
 length-fields c = simp (length-append, length-plain, length-moment) (omega arith)
 

@@ -1,12 +1,3 @@
 pub mod Lengths
-pub mod Fields
-pub mod Outcomes
-pub mod Texts
-pub mod Moments
-pub mod Rules
 pub mod Writes
-pub mod Whole
-pub mod Shown
-pub mod Seven
-pub mod RoundTrip
 pub mod Says

@@ -1,5 +1,5 @@
 -- What the writer's tests give, and what its contract asks where they are passed and where they are not.
-use Prim.Native.Nat.{ℕ, _+_, _/_, _%_, _≤_, _<_}
+use Prim.Native.Nat.{ℕ, _+_, _≤_}
 use mathlib.Core.Path.{_≡_, refl, sym, ap, _∙_}
 use mathlib.Core.Bool.{true, _&&_}
 use mathlib.Core.List.{List, _++_, append-assoc}
@@ -8,22 +8,20 @@ use lib.Dec.{eqb, leb}
 use lib.ListN.{length}
 use borrow.Author.Tests.{leb-true, eq-eqb, ne-eqb}
 use Rattle.laws.proofs.Choose.{and-left, and-right, choose}
-use Rattle.counts.specs.Limits.{textBytes, classMost, codeMost}
+use Rattle.counts.specs.Limits.{commands, textBytes, classMost, codeMost}
 use Rattle.counts.proofs.Results.{first-way}
 use Rattle.counts.specs.Result.{refused, done}
 use Rattle.field.specs.Bytes.{ascii}
 use Rattle.field.specs.Part.{Wrote}
-use Rattle.field.proofs.Put.{then, wrote-length}
-use Rattle.decimal.specs.Digits.{digits, plainWidth}
-use Rattle.decimal.proofs.Laws.{length-digits}
-use Rattle.calendar.specs.Calendar.{realDate, realTime}
-use Rattle.calendar.proofs.Laws.{date-lt, time-lt}
+use Rattle.field.proofs.Put.{then, as-bytes}
+use Rattle.decimal.specs.Digits.{plainWidth, plain}
 use Rattle.scan.specs.Kinds.{isTextByte}
 use Rattle.scan.specs.Run.{runEnd}
-use Rattle.record.specs.Record.{Content, content, isText, isOutcome, inRange, isReal, momentBytes, recordBytes, fixedLength}
-use Rattle.record.specs.Writing.{Fits, WroteAfter, writeRefusal, written, writtenBytes}
+use Rattle.moment.specs.Moment.{realMoment, momentBytes}
+use Rattle.record.specs.Record.{Content, content, isText, isOutcome, inRange, outcomeBytes, recordBytes, fixedLength}
+use Rattle.record.specs.Writing.{Fits, writeRefusal, written, writtenBytes}
 use Rattle.record.specs.declared.Outcome.{Outcome}
-use Rattle.record.proofs.Lengths.{length-record}
+use Rattle.record.proofs.Lengths.{length-fields, length-record}
 
 -- ---- what the tests give
 
@@ -53,10 +51,6 @@ pub short-text : (text : List ℕ) → isText text ≡ true → length text ≤ 
 unfolding isText
 short-text text h = leb-true (length text) textBytes (and-left (leb (length text) textBytes) (eqb (runEnd isTextByte text 0) (length text)) h)
 
-pub real-lt : (date time : ℕ) → isReal date time ≡ true → (date < 100000000) × (time < 1000000)
-unfolding isReal
-real-lt date time h = (date-lt date (and-left (realDate date) (realTime time) h), time-lt time (and-right (realDate date) (realTime time) h))
-
 -- ---- the refusal
 
 pub length-is : (n : ℕ) (o : Outcome) (text : List ℕ) (date time r : ℕ) → r ≡ fixedLength o + plainWidth n + length text
@@ -71,7 +65,7 @@ module _ (limit : ℕ) (c : Content) where
   unfolding writeRefusal
   not-refused out h =
       let (range, h1) = first-way (inRange limit (c .number) (c .outcome) (c .text)) _ 6 h in
-      let (real, h2) = first-way (isReal (c .date) (c .time)) _ 4 h1 in
+      let (real, h2) = first-way (realMoment (c .date) (c .time)) _ 4 h1 in
       let (room, h3) = first-way (leb (length (recordBytes c)) (length out)) _ 7 h2 in
       record { range = range; real = real; room = omega (arith, leb-true (length (recordBytes c)) (length out) room) }
 
@@ -85,23 +79,18 @@ module _ (limit : ℕ) (c : Content) where
   unfolding written writtenBytes
   refused-record out h = rw (ne-eqb _ _ h) (refl, refl)
 
--- ---- a word and digits that were written
+-- ---- a record, field by field
 
-pub wrote-after : (d : List ℕ) (at : ℕ) (word : List ℕ) (w n : ℕ) {f e : List ℕ} {a r : ℕ} → Wrote d at word f a → Wrote f a (digits w n) e r
-    → WroteAfter d at word w n e r
-wrote-after d at word w n v u = record {
-  wrote = then v u;
-  next = omega (arith, v .next, u .next, length-digits w n);
-  kept = wrote-length u ∙ wrote-length v;
-}
+pub room-of : (n : ℕ) (o : Outcome) (text : List ℕ) (date time at : ℕ) (out : List ℕ) → Fits commands (content n o text date time) at out
+    → at + (8 + plainWidth n + length (outcomeBytes o) + length text + 22) ≤ length out
+room-of n o text date time at out p = omega (arith, p .room, length-fields (content n o text date time))
 
--- the fields that follow the text, as they are written, are its bytes
-regroup : (a b c d e f g h k : List ℕ) → (a ++ b) ++ (c ++ d) ++ (e ++ f) ++ (g ++ h) ++ k ≡ a ++ b ++ c ++ (d ++ e ++ f ++ g ++ h) ++ k
-regroup a b c d e f g h k = simp append-assoc
+regroup : (a b c d e : List ℕ) → a ++ b ++ (c ++ d) ++ e ≡ a ++ b ++ c ++ d ++ e
+regroup a b c d e = simp append-assoc
 
-pub moment-is : (date time : ℕ)
-    → (ascii "\" " ++ digits 8 date) ++ (ascii " " ++ digits 2 (time / 10000)) ++ (ascii ":" ++ digits 2 (time / 100 % 100)) ++ (ascii ":" ++ digits 2 (time % 100)) ++ ascii ";\r\n"
-    ≡ momentBytes date time
-unfolding momentBytes
-moment-is date time =
-    regroup (ascii "\" ") (digits 8 date) (ascii " ") (digits 2 (time / 10000)) (ascii ":") (digits 2 (time / 100 % 100)) (ascii ":") (digits 2 (time % 100)) (ascii ";\r\n")
+pub wrote-fields : (d f g h k e : List ℕ) (at a b i j r n : ℕ) (o : Outcome) (text : List ℕ) (date time : ℕ) → Wrote d at (ascii "COMMAND " ++ plain n) f a
+    → Wrote f a (outcomeBytes o) g b → Wrote g b text h i → Wrote h i (ascii "\" " ++ momentBytes date time) k j → Wrote k j (ascii ";\r\n") e r
+    → Wrote d at (recordBytes (content n o text date time)) e r
+unfolding recordBytes
+wrote-fields d f g h k e at a b i j r n o text date time p q t u v =
+    as-bytes (then (then (then (then p q) t) u) v) (regroup (ascii "COMMAND " ++ plain n ++ outcomeBytes o) text (ascii "\" ") (momentBytes date time) (ascii ";\r\n"))

@@ -1,5 +1,5 @@
 -- Response records (document 01, "Response records"): what one says, which are permitted, and the bytes of one.
-use Prim.Native.Nat.{ℕ, _/_, _%_}
+use Prim.Native.Nat.{ℕ}
 use mathlib.Core.Bool.{Bool, true, _&&_}
 use mathlib.Core.List.{List, _++_}
 use lib.Dec.{leb, eqb}
@@ -9,7 +9,7 @@ use Rattle.field.specs.Bytes.{ascii}
 use Rattle.decimal.specs.Digits.{digits, plain}
 use Rattle.scan.specs.Kinds.{isTextByte}
 use Rattle.scan.specs.Run.{runEnd}
-use Rattle.calendar.specs.Calendar.{realDate, realTime}
+use Rattle.moment.specs.Moment.{realMoment, momentBytes}
 use Rattle.record.specs.declared.Outcome.{Outcome}
 use Rattle.record.specs.declared.Outcome.the-variants.{Processed, Error}
 
@@ -39,12 +39,8 @@ isOutcome (Error class code) = leb class classMost && leb code codeMost
 unfoldable pub inRange : ℕ → ℕ → Outcome → List ℕ → Bool
 inRange limit n outcome text = leb 1 n && leb n limit && isOutcome outcome && isText text
 
--- date and time
-unfoldable pub isReal : ℕ → ℕ → Bool
-isReal date time = realDate date && realTime time
-
 unfoldable pub permitted : ℕ → Content → Bool
-permitted limit c = inRange limit (c .number) (c .outcome) (c .text) && isReal (c .date) (c .time)
+permitted limit c = inRange limit (c .number) (c .outcome) (c .text) && realMoment (c .date) (c .time)
 
 -- ---- its bytes
 
@@ -53,21 +49,16 @@ abbrev pub outcomeBytes : Outcome → List ℕ
 outcomeBytes Processed = ascii " PROCESSED \""
 outcomeBytes (Error class code) = ascii " ERROR " ++ digits 2 class ++ ascii " " ++ digits 8 code ++ ascii " \""
 
--- dd:dd:dd
-abbrev pub timeBytes : ℕ → List ℕ
-timeBytes time = digits 2 (time / 10000) ++ ascii ":" ++ digits 2 (time / 100 % 100) ++ ascii ":" ++ digits 2 (time % 100)
-
--- the quote that closes the text, date and time, and `;` "then CR LF"
-unfoldable pub momentBytes : ℕ → ℕ → List ℕ
-momentBytes date time = ascii "\" " ++ digits 8 date ++ ascii " " ++ timeBytes time ++ ascii ";\r\n"
-
--- how many they are
-abbrev pub momentLength : ℕ
-momentLength = 22
-
--- `COMMAND n PROCESSED "text" date time;` or `COMMAND n ERROR cc eeeeeeee "text" date time;`, n "without leading zeros"
+-- `COMMAND n PROCESSED "text" date time;` or `COMMAND n ERROR cc eeeeeeee "text" date time;`, n "without leading zeros", "then CR LF"
 unfoldable pub recordBytes : Content → List ℕ
-recordBytes c = ascii "COMMAND " ++ plain (c .number) ++ outcomeBytes (c .outcome) ++ c .text ++ momentBytes (c .date) (c .time)
+recordBytes c =
+    ascii "COMMAND "
+    ++ plain (c .number)
+    ++ outcomeBytes (c .outcome)
+    ++ c .text
+    ++ ascii "\" "
+    ++ momentBytes (c .date) (c .time)
+    ++ ascii ";\r\n"
 
 -- "Length: PROCESSED 42, ERROR 50, plus the digits of n and the bytes of text."
 abbrev pub fixedLength : Outcome → ℕ

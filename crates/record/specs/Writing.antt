@@ -2,14 +2,14 @@
 use Prim.Native.Nat.{ℕ, _+_, _≤_}
 use mathlib.Core.Path.{_≡_}
 use mathlib.Core.Bool.{true, cond}
-use mathlib.Core.List.{List, _++_}
+use mathlib.Core.List.{List}
 use lib.Dec.{eqb, leb}
 use lib.ListN.{length}
 use Rattle.counts.specs.Refusals.{notARecord, notReal, tooLittleRoom}
 use Rattle.counts.specs.Result.{Result, refused, done, refusedAs}
-use Rattle.field.specs.Part.{put, Wrote}
-use Rattle.decimal.specs.Digits.{digits}
-use Rattle.record.specs.Record.{Content, inRange, isReal, recordBytes}
+use Rattle.field.specs.Part.{put}
+use Rattle.moment.specs.Moment.{realMoment}
+use Rattle.record.specs.Record.{Content, inRange, recordBytes}
 use Rattle.record.specs.declared.Written.{Written}
 use Rattle.record.specs.declared.Written.the-variants.{Bytes, Refused}
 
@@ -19,7 +19,7 @@ use Rattle.record.specs.declared.Written.the-variants.{Bytes, Refused}
 unfoldable pub writeRefusal : ℕ → Content → ℕ → ℕ
 writeRefusal limit c room =
     cond (inRange limit (c .number) (c .outcome) (c .text))
-    (cond (isReal (c .date) (c .time)) (cond (leb (length (recordBytes c)) room) 0 tooLittleRoom) notReal)
+    (cond (realMoment (c .date) (c .time)) (cond (leb (length (recordBytes c)) room) 0 tooLittleRoom) notReal)
     notARecord
 
 -- the bytes written, or the refusal
@@ -34,14 +34,8 @@ writtenBytes limit c out = cond (eqb (writeRefusal limit c (length out)) 0) (put
 -- what is asked of a caller that writes without a test: a permitted record, and room for it from at on
 pub record Fits (limit : ℕ) (c : Content) (at : ℕ) (out : List ℕ) : Type 0 where
   pub range : inRange limit (c .number) (c .outcome) (c .text) ≡ true
-  pub real : isReal (c .date) (c .time) ≡ true
+  pub real : realMoment (c .date) (c .time) ≡ true
   pub room : at + length (recordBytes c) ≤ length out
-
--- a word and n in w digits after it were written from at on, and the place after them
-pub record WroteAfter (d : List ℕ) (at : ℕ) (word : List ℕ) (w n : ℕ) (e : List ℕ) (after : ℕ) : Type 0 where
-  pub wrote : Wrote d at (word ++ digits w n) e after
-  pub next : after ≡ at + (length word + w)
-  pub kept : length e ≡ length d
 
 -- ---- the paper's number and values of each answer
 

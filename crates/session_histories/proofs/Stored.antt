@@ -15,7 +15,8 @@ use Rattle.counts.specs.Limits.{commands, sessions, classMost, codeMost}
 use Rattle.laws.proofs.Choose.{and-left, and-right}
 use Rattle.sessions.proofs.Loops.{first-same}
 use Rattle.sessions.specs.Find.{first}
-use Rattle.record.specs.Record.{isReal, isOutcome}
+use Rattle.moment.specs.Moment.{realMoment}
+use Rattle.record.specs.Record.{isOutcome}
 use Rattle.sessions.specs.Records.{isDated}
 use Rattle.sessions.specs.Table.{withAnswer, afterAnswer}
 use Rattle.sessions.specs.declared.Answer.{Answer}
@@ -45,7 +46,7 @@ outcome-fits (Error class code) e =
     (omega arith, omega arith)
 
 date-fits : (a : Answer) → isDated a ≡ true → (a .date < 4294967296) × (a .time < 4294967296)
-unfolding isReal
+unfolding realMoment
 date-fits a e =
     let d = date-lt (a .date) (and-left (realDate (a .date)) (realTime (a .time)) e) in
     let t = time-lt (a .time) (and-right (realDate (a .date)) (realTime (a .time)) e) in

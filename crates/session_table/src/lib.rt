@@ -235,7 +235,7 @@ fn answer_refusal(b: &[u8], ticket: Ticket, command: CommandNumber, a: Answer) -
     if is_sound(b) {
         if names_hand(b, ticket, command) {
             let o = a.outcome;
-            let real = record::is_real(a.date, a.time);
+            let real = moment::is_real(a.date, a.time);
             let wrong = !record::is_outcome(o);
             if real {
                 if wrong { NOT_A_RECORD } else { 0 }

@@ -2,12 +2,13 @@
 use Prim.Native.Nat.{ℕ}
 use mathlib.Core.Bool.{Bool}
 use mathlib.Core.List.{List, []}
-use Rattle.record.specs.Record.{content, isReal, recordBytes}
+use Rattle.moment.specs.Moment.{realMoment}
+use Rattle.record.specs.Record.{content, recordBytes}
 use Rattle.sessions.specs.declared.Answer.{Answer}
 
 -- "with a real date and time"
 abbrev pub isDated : Answer → Bool
-isDated a = isReal (a .date) (a .time)
+isDated a = realMoment (a .date) (a .time)
 
 -- the record of the answer to command n, "text empty"
 abbrev pub recordOf : ℕ → Answer → List ℕ

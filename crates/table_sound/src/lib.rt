@@ -85,7 +85,7 @@ fn is_new(b: &[u8], s: SessionNumber, t: Ticket) -> bool
 fn is_real(a: Answer) -> bool
     ensures { λ r. ⌜ r ≡ isReal a ⌝ }
 {
-    if record::is_real(a.date, a.time) {
+    if moment::is_real(a.date, a.time) {
         let o = a.outcome;
         return record::is_outcome(o);
     }

@@ -6,7 +6,7 @@ use io::write_all;
 use job::JobAnswer;
 use libc::STDOUT_FILENO;
 use record::Outcome;
-use record::RecordRead;
+use record_read::RecordRead;
 
 fn print_number(n: u64) {
     write_all(STDOUT_FILENO, b" ");
@@ -58,14 +58,14 @@ fn print_outcome(outcome: Outcome) {
 }
 
 fn run_record(bytes: &[u8]) {
-    match record::read_record(bytes) {
+    match record_read::read_record(bytes) {
         RecordRead::Taken(read) => {
             write_all(STDOUT_FILENO, b" record");
             print_number(read.number.0 as u64);
             let outcome = read.outcome;
             print_outcome(outcome);
             write_all(STDOUT_FILENO, b" text");
-            print_number(record::record_text(bytes).len() as u64);
+            print_number(record_read::record_text(bytes).len() as u64);
             write_all(STDOUT_FILENO, b" date");
             print_number(read.date as u64);
             write_all(STDOUT_FILENO, b" time");

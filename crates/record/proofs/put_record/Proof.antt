@@ -6,13 +6,12 @@ use native.Mathlib.Omega.{arith}
 use denote.Ref.{now}
 use Rattle.counts.specs.Limits.{commands}
 use Rattle.field.specs.Bytes.{ascii}
-use Rattle.field.proofs.Put.{then, as-bytes, wrote-length}
+use Rattle.field.proofs.Put.{as-bytes, wrote-length}
 use Rattle.decimal.specs.Digits.{digits, plain}
 use Rattle.decimal.proofs.PlainLaws.{plain-fits}
-use Rattle.record.specs.Record.{content, recordBytes}
-use Rattle.record.proofs.Lengths.{length-fields}
-use Rattle.record.proofs.Fields.{ten-digits}
-use Rattle.record.proofs.Writes.{ranges, real-lt}
+use Rattle.moment.proofs.Moments.{length-moment}
+use Rattle.record.proofs.Lengths.{ten-digits}
+use Rattle.record.proofs.Writes.{ranges, room-of, wrote-fields}
 use borrow.Author.Needs.{needs}
 use Rattle.record.proofs.put_record.Statement.{statement}
 use Rattle.record.proofs.put_record.Tie as tie
@@ -30,61 +29,85 @@ put-after-requires : tie.Need-put-after-requires
 put-after-requires c κs =
     let a = c .before .before .before .before .before .args in
     let p = c .before .before .before .before .before .pre in
+    let room = room-of (a .number .0) (a .outcome) (now (a .text)) (a .date) (a .time) (a .at) (now (a .out)) p in
     let w = c .plain-width .ensures in
-    let fields = length-fields (content (a .number .0) (a .outcome) (now (a .text)) (a .date) (a .time)) in
-    (omega (arith, ten-digits _ _ (omega arith) w), rw w (plain-fits (a .number .0)), omega (arith, p .room))
+    (omega (arith, ten-digits _ _ (omega arith) w), rw w (plain-fits (a .number .0)), omega arith)
 
 put-outcome-requires : tie.Need-put-outcome-requires
 put-outcome-requires c κs =
     let a = c .before .before .before .before .before .before .before .before .before .args in
     let p = c .before .before .before .before .before .before .before .before .before .pre in
+    let room = room-of (a .number .0) (a .outcome) (now (a .text)) (a .date) (a .time) (a .at) (now (a .out)) p in
     let w = c .before .before .before .before .plain-width .ensures in
     let first = c .before .before .before .put-after .ensures in
-    let fields = length-fields (content (a .number .0) (a .outcome) (now (a .text)) (a .date) (a .time)) in
-    (ranges commands (a .number .0) (a .outcome) (now (a .text)) (p .range) .outcome, omega (arith, p .room))
+    (ranges commands (a .number .0) (a .outcome) (now (a .text)) (p .range) .outcome, omega arith)
 
 put-bytes-requires : tie.Need-put-bytes-requires
 put-bytes-requires c κs =
     let a = c .before .before .before .before .before .before .before .before .before .before .before .before .before .args in
     let p = c .before .before .before .before .before .before .before .before .before .before .before .before .before .pre in
+    let room = room-of (a .number .0) (a .outcome) (now (a .text)) (a .date) (a .time) (a .at) (now (a .out)) p in
     let w = c .before .before .before .before .before .before .before .before .plain-width .ensures in
     let first = c .before .before .before .before .before .before .before .put-after .ensures in
     let second = c .before .before .before .put-outcome .ensures in
-    let fields = length-fields (content (a .number .0) (a .outcome) (now (a .text)) (a .date) (a .time)) in
-    omega (arith, p .room, wrote-length second)
+    omega (arith, wrote-length second)
+
+slice-aggregate-put-moment : tie.Need-slice-aggregate-put-moment
+slice-aggregate-put-moment c = search needs
 
 put-moment-requires : tie.Need-put-moment-requires
 put-moment-requires c κs =
-    let a = c .before .before .before .before .before .before .before .before .before .before .before .before .before .before .before .before .before .args in
-    let p = c .before .before .before .before .before .before .before .before .before .before .before .before .before .before .before .before .before .pre in
-    let w = c .before .before .before .before .before .before .before .before .before .before .before .before .plain-width .ensures in
-    let first = c .before .before .before .before .before .before .before .before .before .before .before .put-after .ensures in
-    let second = c .before .before .before .before .before .before .before .put-outcome .ensures in
-    let third = c .before .before .before .put-bytes .ensures in
-    let fields = length-fields (content (a .number .0) (a .outcome) (now (a .text)) (a .date) (a .time)) in
-    let real = real-lt (a .date) (a .time) (p .real) in
-    (real .0, real .1, omega (arith, p .room, wrote-length second, wrote-length third))
+    let a = c .before .before .before .before .before .before .before .before .before .before .before .before .before .before .before .before .before .before .args in
+    let p = c .before .before .before .before .before .before .before .before .before .before .before .before .before .before .before .before .before .before .pre in
+    let room = room-of (a .number .0) (a .outcome) (now (a .text)) (a .date) (a .time) (a .at) (now (a .out)) p in
+    let w = c .before .before .before .before .before .before .before .before .before .before .before .before .before .plain-width .ensures in
+    let first = c .before .before .before .before .before .before .before .before .before .before .before .before .put-after .ensures in
+    let second = c .before .before .before .before .before .before .before .before .put-outcome .ensures in
+    let third = c .before .before .before .before .put-bytes .ensures in
+    (p .real, omega (arith, wrote-length second, wrote-length third))
+
+slice-aggregate-put-bytes : tie.Need-slice-aggregate-put-bytes
+slice-aggregate-put-bytes c = search needs
+
+put-bytes-requires-2 : tie.Need-put-bytes-requires-2
+put-bytes-requires-2 c κs =
+    let a = c .before .before .before .before .before .before .before .before .before .before .before .before .before .before .before .before .before .before .before .before .before .before .before .args in
+    let p = c .before .before .before .before .before .before .before .before .before .before .before .before .before .before .before .before .before .before .before .before .before .before .before .pre in
+    let room = room-of (a .number .0) (a .outcome) (now (a .text)) (a .date) (a .time) (a .at) (now (a .out)) p in
+    let w = c .before .before .before .before .before .before .before .before .before .before .before .before .before .before .before .before .before .before .plain-width .ensures in
+    let first = c .before .before .before .before .before .before .before .before .before .before .before .before .before .before .before .before .before .put-after .ensures in
+    let second = c .before .before .before .before .before .before .before .before .before .before .before .before .before .put-outcome .ensures in
+    let third = c .before .before .before .before .before .before .before .before .before .put-bytes .ensures in
+    let fourth = c .before .before .before .before .put-moment .ensures in
+    omega (arith, length-moment (a .date) (a .time), wrote-length second, wrote-length third, wrote-length fourth)
 
 same-length : tie.Need-same-length
 same-length c = search needs
 
 returns : tie.Need-returns
-unfolding recordBytes plain
+unfolding plain
 returns c =
-    let n = c .before .before .before .before .before .before .before .before .before .before .before .before .before .before .before .before .before .before .before .before .args .number .0 in
-    let w = c .before .before .before .before .before .before .before .before .before .before .before .before .before .before .before .plain-width .ensures in
-    let first = as-bytes (c .before .before .before .before .before .before .before .before .before .before .before .before .before .before .put-after .ensures .wrote) (ap (λ (k : ℕ). ascii "COMMAND " ++ digits k n) w) in
-    then (then (then first (c .before .before .before .before .before .before .before .before .before .before .put-outcome .ensures)) (c .before .before .before .before .before .before .put-bytes .ensures)) (c .before .before .put-moment .ensures)
+    let n = c .before .before .before .before .before .before .before .before .before .before .before .before .before .before .before .before .before .before .before .before .before .before .before .before .before .before .args .number .0 in
+    let w = c .before .before .before .before .before .before .before .before .before .before .before .before .before .before .before .before .before .before .before .before .before .plain-width .ensures in
+    let first = as-bytes (c .before .before .before .before .before .before .before .before .before .before .before .before .before .before .before .before .before .before .before .before .put-after .ensures .wrote) (ap (λ (k : ℕ). ascii "COMMAND " ++ digits k n) w) in
+    let second = c .before .before .before .before .before .before .before .before .before .before .before .before .before .before .before .before .put-outcome .ensures in
+    let third = c .before .before .before .before .before .before .before .before .before .before .before .before .put-bytes .ensures in
+    let fourth = c .before .before .before .before .before .before .before .put-moment .ensures in
+    wrote-fields _ _ _ _ _ _ _ _ _ _ _ _ _ _ _ _ _ first second third fourth (c .before .before .put-bytes2 .ensures)
 
 pub put-record-spec : {M : Type 1} → statement M
 put-record-spec =
     tie.close
     (tie.spec
     slice-aggregate-put-after
-    cast-plain-width plain-width-requires
+    cast-plain-width
+    plain-width-requires
     put-after-requires
     put-outcome-requires
     put-bytes-requires
+    slice-aggregate-put-moment
     put-moment-requires
+    slice-aggregate-put-bytes
+    put-bytes-requires-2
     same-length
     returns)

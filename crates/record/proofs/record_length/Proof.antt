@@ -1,7 +1,6 @@
 -- `record::record_length` meets its contract.
 use native.Mathlib.Omega.{arith}
-use Rattle.record.proofs.Fields.{ten-digits}
-use Rattle.record.proofs.Lengths.{fixed-le}
+use Rattle.record.proofs.Lengths.{fixed-le, ten-digits}
 use borrow.Author.Needs.{needs}
 use Rattle.record.proofs.record_length.Statement.{statement}
 use Rattle.record.proofs.record_length.Tie as tie

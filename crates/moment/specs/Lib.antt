@@ -1,0 +1,2 @@
+pub mod Moment
+pub mod Reading
