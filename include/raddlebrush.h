@@ -1,5 +1,5 @@
-/* Raddlebrush: what a gateway that speaks EUROMAP 63 must get right. Every call is proved to meet its contract
- * (crates/raddlebrush/src/lib.rt); this header says the same in C. C99 and C++.
+/* Raddlebrush: what a gateway that speaks EUROMAP 63 must get right. Every call of the archive is proved to meet its contract
+ * (crates/raddlebrush/src); this header says the same in C. Its inline functions are plain C, which tests/run calls. C99 and C++.
  *
  * Every call takes any bytes and any numbers. Memory is lent as a pointer and a length, and a pointer must be good for its length
  * (a length of 0 still wants a pointer that is not NULL). What is lent for writing must not overlap anything else lent to that call.
