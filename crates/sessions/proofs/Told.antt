@@ -11,7 +11,7 @@ use Rattle.sessions.specs.History.{Call, Event, made, placed, tookUp, an
 use Rattle.sessions.specs.Runs.{refusedWith}
 use Rattle.sessions.specs.Table.{State, lowest, reply}
 use Rattle.sessions.specs.declared.Answer.{Answer}
-use Rattle.sessions.proofs.Did.{Places, Answers, Collects, Idle, no-make, other-make, no-place, no-take-up, again, no-answer, no-collect, Did, nothing, makes, places, takes, answers, collects, stepTable, did}
+use Rattle.sessions.proofs.Did.{Places, Answers, Collects, Idle, not-made, no-place, no-take-up, again, no-answer, no-collect, Did, nothing, makes, places, takes, answers, collects, stepTable, did}
 
 -- the command c of ticket t, at s, is now in hand
 pub record Given (σ σ′ : State) (s t c : ℕ) : Type 0 where
@@ -42,8 +42,7 @@ Told σ (collected p t out (done n) exit) σ′ = Collection σ p t out n exit
 Told σ (collected p t out (refused k i) exit) σ′ = σ′ ≡ σ
 
 told-idle : {σ : State} {e : Event} → Idle σ e → Told σ e σ
-told-idle (no-make max k i) = tt
-told-idle (other-make m max r) = tt
+told-idle (not-made m max r q) = tt
 told-idle (no-place p n k i) = refl
 told-idle (no-take-up k i) = refl
 told-idle (again s q) = record { in-hand = q; same-slots = refl; ticket = refl; command = refl }
