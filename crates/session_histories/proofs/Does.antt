@@ -220,12 +220,12 @@ module _ (b : List ℕ) (e : soundBytes b ≡ true) where
   keeps c =
       rw (step-length c ∙ sound-size b e, leaves c, parts-sound (stepTable making (abs b) c .1) (sound-kept (did (abs b) making c) (sound-table b e)))
 
--- sound bytes that hold this table
-pub record Holds (b : List ℕ) (σ : State) : Type 0 where
+-- the table is kept as these bytes
+pub record KeptAs (b : List ℕ) (σ : State) : Type 0 where
   pub sound : soundBytes b ≡ true
   pub table : abs b ≡ σ
 
-pub does : (b : List ℕ) (σ : State) → Holds b σ → (c : Call) → Alike Holds stepBytes (stepTable making) (stepBytes b c) (stepTable making σ c)
+pub does : (b : List ℕ) (σ : State) → KeptAs b σ → (c : Call) → Alike KeptAs stepBytes (stepTable making) (stepBytes b c) (stepTable making σ c)
 does b σ w c =
     record {
       answers = answers b (w .sound) c ∙ ap (λ τ. stepTable making τ c .0) (w .table);
@@ -233,8 +233,8 @@ does b σ w c =
     }
 
 -- and so does every run: the bytes stay sound, hold what the table without bytes is then, and the answers are the same
-pub same-bytes : {b : List ℕ} {σ : State} → Holds b σ → (cs : List Call) → SameRun Holds stepBytes (stepTable making) b σ cs
-same-bytes = same-run Holds stepBytes (stepTable making) does
+pub same-bytes : {b : List ℕ} {σ : State} → KeptAs b σ → (cs : List Call) → SameRun KeptAs stepBytes (stepTable making) b σ cs
+same-bytes = same-run KeptAs stepBytes (stepTable making) does
 
-pub fresh-holds : (max : ℕ) → 1 ≤ max → max ≤ sessions → Holds (freshBytes max) (fresh max)
+pub fresh-holds : (max : ℕ) → 1 ≤ max → max ≤ sessions → KeptAs (freshBytes max) (fresh max)
 fresh-holds max low high = record { sound = fresh-is-sound max low high; table = fresh-bytes max low high }

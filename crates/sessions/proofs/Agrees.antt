@@ -14,7 +14,7 @@ use Rattle.sessions.proofs.Parts.{Sound}
 use Rattle.sessions.specs.Table.{State, fresh}
 use Rattle.sessions.proofs.Did.{Idle, not-made, no-place, no-take-up, again, no-answer, no-collect, Did, nothing, makes, places, takes, answers, collects, stepTable, did, anew-exactly}
 use Rattle.sessions.proofs.Laws.{either}
-use Rattle.sessions.proofs.Runs.{Keeps, Moment, always, moment}
+use Rattle.sessions.proofs.Runs.{Keeps, Before, always, before}
 use Rattle.sessions.proofs.SoundKept.{fresh-sound, is-session, is-open, tickets-below, sound-kept}
 use Rattle.sessions.proofs.Standing.{Standing, new, apart, its-placing, its-answer, its-collection}
 
@@ -88,5 +88,5 @@ module _ (elsewhere : List ℕ → ℕ → Result (Unit {0})) where
     agrees = always (stepTable elsewhere) Agrees start begins agrees-kept cs kept
 
     pub agreed : (later earlier : List Event) (e : Event) → historyOf start (stepTable elsewhere) cs ≡ later ++ (e ∷ earlier)
-        → Moment (stepTable elsewhere) Agrees e earlier
-    agreed = moment (stepTable elsewhere) Agrees start begins agrees-kept cs kept
+        → Before (stepTable elsewhere) Agrees e earlier
+    agreed = before (stepTable elsewhere) Agrees start begins agrees-kept cs kept

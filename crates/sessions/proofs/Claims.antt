@@ -24,7 +24,7 @@ use Rattle.sessions.proofs.Laws.{nil≢mid, head-same, tail-same}
 use Rattle.sessions.proofs.Owing.{collect-owed, collect-yours, in-order}
 use Rattle.sessions.proofs.SoundKept.{is-session}
 use Rattle.sessions.proofs.Past.{gather-append, accepted-append, accepted-at}
-use Rattle.sessions.proofs.Runs.{Moment}
+use Rattle.sessions.proofs.Runs.{Before}
 use Rattle.sessions.proofs.Told.{Told, told-by}
 
 length-zero : {A : Type 0} (l : List A) → length l ≡ 0 → l ≡ []
@@ -61,14 +61,14 @@ module _ (elsewhere : List ℕ → ℕ → Result (Unit {0})) (start : State) (b
   module _ (later earlier : List Event) where
     -- what an event tells of the table before it, which agreed with what came before
     then : (e : Event) → h ≡ later ++ (e ∷ earlier)
-        → (m : Moment (stepTable elsewhere) Agrees e earlier) × Told (m .before) e (stepTable elsewhere (m .before) (m .call) .1)
-    then e q = let m = agreed elsewhere start begins cs kept later earlier e q in (m, told-by elsewhere (m .before) (m .call) (m .now))
+        → (m : Before (stepTable elsewhere) Agrees e earlier) × Told (m .table) e (stepTable elsewhere (m .table) (m .call) .1)
+    then e q = let m = agreed elsewhere start begins cs kept later earlier e q in (m, told-by elsewhere (m .table) (m .call) (m .answered-so))
 
     -- "Each reply collected under a ticket holds one record per command of the request that got that ticket, numbered from 1 in
     -- order, carrying exactly the outcome, date and time accepted for that ticket and command."
     pub reply-is-yours : (p t : ℕ) (out : List ℕ) (n : ℕ) (exit : List ℕ) → h ≡ later ++ (collected p t out (done n) exit ∷ earlier)
         → Yours p t out n exit earlier
-    reply-is-yours p t out n exit e = let (m, w) = then (collected p t out (done n) exit) e in collect-yours (m .before) earlier (m .held) w
+    reply-is-yours p t out n exit e = let (m, w) = then (collected p t out (done n) exit) e in collect-yours (m .table) earlier (m .held) w
 
     -- An answer that was accepted is real, and to a command that there may be.
     pub accepted-in-range : (t c : ℕ) (a : Answer) (r : Unit {0}) → h ≡ later ++ (answered t c a (done r) ∷ earlier)
@@ -77,7 +77,7 @@ module _ (elsewhere : List ℕ → ℕ → Result (Unit {0})) (start : State) (b
         let (m, w) = then (answered t c a (done r)) e in
         let ok = m .held .sound in
         let l = ok .in-hand (w .number) (w .answers-it .in-hand) in
-        let x = is-session (m .before) ok (λ x. x .count) refl (w .number) (omega arith) in
+        let x = is-session (m .table) ok (λ x. x .count) refl (w .number) (omega arith) in
         (omega (arith, w .answers-it .command), omega (arith, w .answers-it .command, x .count-high), w .answers-it .real)
 
     -- "A collected ticket is never honoured again."
@@ -99,7 +99,7 @@ module _ (elsewhere : List ℕ → ℕ → Result (Unit {0})) (start : State) (b
       unfolding gather placing collection accepted
       since =
           let (m, k) = then (placed p n (done (s, t))) e in
-          let w = given-new (m .before) earlier (m .held) t (k .1) in
+          let w = given-new (m .table) earlier (m .held) t (k .1) in
           record {
             one-placing = given-once σ h now t (s, p, n) (placings t later)
                 (ap (placings t) e ∙ gather-append (placing t) later _ ∙ rw (eq-eqb t t refl, w .no-placing));

@@ -19,12 +19,12 @@ module _ {S : Type 0} (step : StepOf S) (P : S → List Event → Type 0) where
   abbrev pub Keeps : Type 0
   Keeps = (s : S) (h : List Event) (c : Call) → makesAnew c ≡ false → P s h → P (step s c .1) (step s c .0 ∷ h)
 
-  -- it held at the moment of each event
-  pub record Moment (e : Event) (earlier : List Event) : Type 0 where
-    pub before : S
+  -- it held before each event of a history: of that table, with what came earlier; and the event is what the call answered there
+  pub record Before (e : Event) (earlier : List Event) : Type 0 where
+    pub table : S
     pub call : Call
-    pub held : P before earlier
-    pub now : step before call .0 ≡ e
+    pub held : P table earlier
+    pub answered-so : step table call .0 ≡ e
 
   module _ (start : S) (first : P start []) (keeps : Keeps) where
     pub always : (cs : List Call) → neverAnew cs ≡ true → P (reached start step cs) (historyOf start step cs)
@@ -32,13 +32,13 @@ module _ {S : Type 0} (step : StepOf S) (P : S → List Event → Type 0) where
     always [] q = first
     always (c ∷ cs) q = let k = anew-parts c cs q in keeps _ _ c (k .0) (always cs (k .1))
 
-    pub moment : (cs : List Call) → neverAnew cs ≡ true → (later earlier : List Event) (e : Event) → historyOf start step cs ≡ later ++ (e ∷ earlier)
-        → Moment e earlier
+    pub before : (cs : List Call) → neverAnew cs ≡ true → (later earlier : List Event) (e : Event) → historyOf start step cs ≡ later ++ (e ∷ earlier)
+        → Before e earlier
     unfolding historyOf
-    moment [] q later earlier e r = absurd (nil≢mid later earlier e r)
-    moment (c ∷ cs) q [] earlier e r =
-        record { before = _; call = c; held = subst (P _) (tail-same r) (always cs (anew-parts c cs q .1)); now = head-same r }
-    moment (c ∷ cs) q (x ∷ later) earlier e r = moment cs (anew-parts c cs q .1) later earlier e (tail-same r)
+    before [] q later earlier e r = absurd (nil≢mid later earlier e r)
+    before (c ∷ cs) q [] earlier e r =
+        record { table = _; call = c; held = subst (P _) (tail-same r) (always cs (anew-parts c cs q .1)); answered-so = head-same r }
+    before (c ∷ cs) q (x ∷ later) earlier e r = before cs (anew-parts c cs q .1) later earlier e (tail-same r)
 
 -- Two ways to keep a table, and which states of one stand for which of the other.
 module _ {S T : Type 0} (R : S → T → Type 0) (stepS : StepOf S) (stepT : StepOf T) where
