@@ -33,7 +33,7 @@ use Rattle.session_table.specs.Calls.{making, freshBytes, madeBytes}
 use Rattle.table_sound.specs.Bytes.{abs, soundBytes}
 use Rattle.claims.specs.Demands.{Happened, Says, Serves, Demand3}
 use Rattle.session_histories.specs.Runs.{Step, stepBytes, bytesAfter}
-use Rattle.session_histories.proofs.Does.{KeptAs, does, same-bytes, fresh-holds}
+use Rattle.session_histories.proofs.Does.{KeptAs, does, same-bytes, fresh-kept}
 
 -- the calls that are no call of a history are those that make the table anew
 pub anew-exactly : (b : List ℕ) → soundBytes b ≡ true → (c : Call) → makesAnew c ≡ wasMade (stepBytes b c .0)
@@ -95,7 +95,7 @@ served start begins cs kept b holds =
 
 pub demand-3 : Demand3 freshBytes stepBytes
 demand-3 max low high cs kept =
-    let run = same-bytes (fresh-holds max low high) cs in
+    let run = same-bytes (fresh-kept max low high) cs in
     rw (run .history) (served (fresh max) (fresh-agrees max low high) cs kept (bytesAfter (freshBytes max) stepBytes cs) (run .stands))
 
 -- A complete reply for which there is room is written from the start of the lent output on, and all beyond it stays.

@@ -26,7 +26,7 @@ use Rattle.sessions.specs.declared.Answer.{Answer}
 use Rattle.session_table.specs.Calls.{freshBytes}
 use Rattle.session_table.specs.Calls as calls
 use Rattle.session_histories.specs.Runs.{Step, stepBytes, bytesAfter}
-use Rattle.session_histories.proofs.Does.{collecting-is, KeptAs, does, same-bytes, fresh-holds}
+use Rattle.session_histories.proofs.Does.{collecting-is, KeptAs, does, same-bytes, fresh-kept}
 use Rattle.table_sound.specs.Bytes.{abs}
 use Rattle.claims.specs.Demands.{Serves, Demand3}
 use Rattle.claims.specs.StandIns.{Request, Run, bytesBy, historyBy, SaysAccepted, DoesNothing, PlacesByRows, Invented, Invents, HandsOver, HoldsBack, PlaceCall, TakeUpCall, CollectCall, PlaceRefuses, TakeUpRefuses, CollectRefuses, IsRefused, Refuted}
@@ -54,7 +54,7 @@ of-two = bytesAfter (freshBytes 2) stepBytes
 
 -- what calls on lent bytes give is computed on the table without bytes
 pub same : (cs : List Call) → SameRun KeptAs stepBytes (stepTable calls.making) (freshBytes 2) (freshState 2) cs
-same = same-bytes (fresh-holds 2 (omega arith) (omega arith))
+same = same-bytes (fresh-kept 2 (omega arith) (omega arith))
 
 gives : (cs : List Call) (c : Call) → stepBytes (of-two cs) c .0 ≡ stepTable calls.making (reached (freshState 2) (stepTable calls.making) cs) c .0
 gives cs c = does _ _ (same cs .stands) c .answers

@@ -51,7 +51,7 @@ after-length (refused k i) b f h = refl
 after-length (done x) b f h = h x
 
 module _ (b : List ℕ) (e : soundBytes b ≡ true) where
-  pub placing-is : (p n : ℕ) → placing b p n ≡ place (abs b) p n .0
+  placing-is : (p n : ℕ) → placing b p n ≡ place (abs b) p n .0
   unfolding placing
   placing-is p n = rw e
 
@@ -66,7 +66,8 @@ module _ (b : List ℕ) (e : soundBytes b ≡ true) where
         let rp = in-range 1 p programs (r .0) in
         let rn = in-range 1 n commands (r .1) in
         ap abs (sym (placing-leaves b p n w s found))
-        ∙ place-leaves b e s p n (number b lastAt + 1) (omega (arith, w .below, sound-table b e .max-high)) (rp .0) (rp .1) (rn .1) (omega (arith, w .room)) refl
+        ∙ place-leaves b e s p n (number b lastAt + 1) (omega (arith, w .below, sound-table b e .max-high))
+        (rp .0) (rp .1) (rn .1) (omega (arith, w .room)) refl
         ∙ rw (w .range, w .found, lt-ltb (number b lastAt) ticketMost (w .room))
 
     pub place-does : abs (placedBytes b p n) ≡ place (abs b) p n .1
@@ -77,7 +78,7 @@ module _ (b : List ℕ) (e : soundBytes b ≡ true) where
         (λ q. placed-done (placeable b p n q))
 
   -- take up
-  pub taking-is : takingUp b ≡ takeUp (abs b) .0
+  taking-is : takingUp b ≡ takeUp (abs b) .0
   unfolding takingUp
   taking-is = rw e
 
@@ -104,7 +105,7 @@ module _ (b : List ℕ) (e : soundBytes b ≡ true) where
 
   -- answer
   module _ (t c : ℕ) (a : Answer) where
-    pub answering-is : answering b t c a ≡ answer (abs b) t c a .0
+    answering-is : answering b t c a ≡ answer (abs b) t c a .0
     unfolding answering
     answering-is = rw e
 
@@ -151,7 +152,7 @@ module _ (b : List ℕ) (e : soundBytes b ≡ true) where
     written-out (refused k i) f = refl
     written-out (done x) f = ap (collected p t out (done (length x))) (put-eq out 0 x (omega (arith, f x refl)) ∙ rw zero-add)
 
-    pub collected-is : stepBytes b (toCollect p t out) .0 ≡ collectedAs p t out (collect (abs b) p t room .0)
+    collected-is : stepBytes b (toCollect p t out) .0 ≡ collectedAs p t out (collect (abs b) p t room .0)
     unfolding stepBytes collectedOut
     collected-is = written-out (collecting b p t room) fits ∙ ap (collectedAs p t out) collecting-is
 
@@ -236,5 +237,5 @@ does b σ w c =
 pub same-bytes : {b : List ℕ} {σ : State} → KeptAs b σ → (cs : List Call) → SameRun KeptAs stepBytes (stepTable making) b σ cs
 same-bytes = same-run KeptAs stepBytes (stepTable making) does
 
-pub fresh-holds : (max : ℕ) → 1 ≤ max → max ≤ sessions → KeptAs (freshBytes max) (fresh max)
-fresh-holds max low high = record { sound = fresh-is-sound max low high; table = fresh-bytes max low high }
+pub fresh-kept : (max : ℕ) → 1 ≤ max → max ≤ sessions → KeptAs (freshBytes max) (fresh max)
+fresh-kept max low high = record { sound = fresh-is-sound max low high; table = fresh-bytes max low high }
