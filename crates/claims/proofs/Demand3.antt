@@ -32,7 +32,7 @@ use Rattle.sessions.specs.declared.Answer.{Answer}
 use Rattle.session_table.specs.Calls.{making, freshBytes, madeBytes}
 use Rattle.table_sound.specs.Bytes.{abs, soundBytes}
 use Rattle.claims.specs.Demands.{Happened, Says, Serves, Demand3}
-use Rattle.session_histories.specs.Runs.{Step, stepBytes, bytesAfter}
+use Rattle.session_histories.specs.Steps.{Step, stepBytes, bytesAfter}
 use Rattle.session_histories.proofs.Does.{KeptAs, does, same-bytes, fresh-kept}
 
 -- the calls that are no call of a history are those that make the table anew

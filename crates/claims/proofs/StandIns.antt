@@ -25,7 +25,7 @@ use Rattle.sessions.specs.Table.{State, fresh as freshState, isOpen, isWaiting,
 use Rattle.sessions.specs.declared.Answer.{Answer}
 use Rattle.session_table.specs.Calls.{freshBytes}
 use Rattle.session_table.specs.Calls as calls
-use Rattle.session_histories.specs.Runs.{Step, stepBytes, bytesAfter}
+use Rattle.session_histories.specs.Steps.{Step, stepBytes, bytesAfter}
 use Rattle.session_histories.proofs.Does.{collecting-is, KeptAs, does, same-bytes, fresh-kept}
 use Rattle.table_sound.specs.Bytes.{abs}
 use Rattle.claims.specs.Demands.{Serves, Demand3}

@@ -20,7 +20,7 @@ use Rattle.sessions.specs.Runs.{reached, historyOf, neverAnew}
 use Rattle.sessions.specs.Table.{fresh as freshState, isOpen, isWaiting, names, numbered, records, placeIn, place, takeNext, takeHand, takeUp, answerHand, answer}
 use Rattle.sessions.specs.declared.Answer.{Answer}
 use Rattle.session_table.specs.Calls.{freshBytes, placing, placedBytes, collectedOut}
-use Rattle.session_histories.specs.Runs.{Step, stepBytes, bytesAfter}
+use Rattle.session_histories.specs.Steps.{Step, stepBytes, bytesAfter}
 use Rattle.claims.specs.StandIns.{Request, Run, historyBy, SaysAccepted, Invented, Invents, HandsOver, HoldsBack, Exhibited}
 use Rattle.claims.proofs.StandIns.{processed, output, answering-one, same, hands-over-first}
 use Rattle.claims.proofs.StandInReaders.{counts-one, makes-up, getinfo, only-getinfo}

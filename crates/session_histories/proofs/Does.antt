@@ -38,7 +38,7 @@ use Rattle.table_sound.specs.Bytes.{slotOf, abs, soundBytes}
 use Rattle.session_histories.proofs.Fresh.{fresh-length, fresh-bytes, fresh-is-sound}
 use Rattle.session_histories.proofs.Leaves.{place-leaves, take-leaves, collect-leaves}
 use Rattle.session_histories.proofs.Stored.{answer-leaves}
-use Rattle.session_histories.specs.Runs.{stepBytes}
+use Rattle.session_histories.specs.Steps.{stepBytes}
 
 -- what a call leaves, by its two ways: where it is refused the bytes are kept, and so is the table without bytes
 leaves-by : {A : Type 0} (b : List ℕ) (r : Result A) (f : A → List ℕ) (x : Result A × State) → r ≡ x .0
