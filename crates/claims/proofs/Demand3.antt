@@ -32,8 +32,8 @@ use Rattle.sessions.specs.declared.Answer.{Answer}
 use Rattle.session_table.specs.Calls.{making, freshBytes, madeBytes}
 use Rattle.table_sound.specs.Bytes.{abs, soundBytes}
 use Rattle.claims.specs.Demands.{Happened, Says, Serves, Demand3}
-use Rattle.session_histories.specs.Runs.{Step, stepBytes, bytesAfter}
-use Rattle.session_histories.proofs.Does.{Holds, does, same-bytes, fresh-holds}
+use Rattle.session_histories.specs.Steps.{Step, stepBytes, bytesAfter}
+use Rattle.session_histories.proofs.Does.{KeptAs, does, same-bytes, fresh-kept}
 
 -- the calls that are no call of a history are those that make the table anew
 pub anew-exactly : (b : List ℕ) → soundBytes b ≡ true → (c : Call) → makesAnew c ≡ wasMade (stepBytes b c .0)
@@ -61,7 +61,7 @@ in-place xs ys c a =
     rw (records-append xs ((c, a) ∷ ys), drop-append-seam (records xs) (recordOf c a ++ records ys)) (take-append-seam (recordOf c a) (records ys))
 
 -- Bytes that hold the table without bytes which the calls have led to, from a start that owes nothing, serve as that table does.
-served : (start : State) → Agrees start [] → (cs : List Call) (kept : neverAnew cs ≡ true) (b : List ℕ) → Holds b (reached start (stepTable making) cs)
+served : (start : State) → Agrees start [] → (cs : List Call) (kept : neverAnew cs ≡ true) (b : List ℕ) → KeptAs b (reached start (stepTable making) cs)
     → Serves stepBytes b (historyOf start (stepTable making) cs)
 served start begins cs kept b holds =
     let σ = reached start (stepTable making) cs in
@@ -88,14 +88,14 @@ served start begins cs kept b holds =
       is-accepted = λ s t c a e real.
           does _ _ (does b σ holds toTakeUp .leaves) (toAnswer t c a) .answers ∙ taken-is-answered making σ s t c a (sym (same toTakeUp) ∙ e) real;
       never-again = λ p t n out exit later earlier e.
-          refuses-alike Holds stepBytes (stepTable making) same t (without-bytes.never-again making start begins cs kept later earlier p t out n exit e);
+          refuses-alike KeptAs stepBytes (stepTable making) same t (without-bytes.never-again making start begins cs kept later earlier p t out n exit e);
       number-is-held = λ p n s t later earlier e f q m u g.
           without-bytes.number-is-held making start begins cs kept later earlier p n s t e q m u f (sym (same (toPlace q m)) ∙ g);
     }
 
 pub demand-3 : Demand3 freshBytes stepBytes
 demand-3 max low high cs kept =
-    let run = same-bytes (fresh-holds max low high) cs in
+    let run = same-bytes (fresh-kept max low high) cs in
     rw (run .history) (served (fresh max) (fresh-agrees max low high) cs kept (bytesAfter (freshBytes max) stepBytes cs) (run .stands))
 
 -- A complete reply for which there is room is written from the start of the lent output on, and all beyond it stays.

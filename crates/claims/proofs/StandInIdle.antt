@@ -16,10 +16,10 @@ use Rattle.sessions.specs.Runs.{reached, historyOf, neverAnew}
 use Rattle.sessions.specs.Table.{numbered, records}
 use Rattle.sessions.specs.declared.Answer.{Answer}
 use Rattle.session_table.specs.Calls.{placing}
-use Rattle.session_histories.specs.Runs.{Step, stepBytes}
+use Rattle.session_histories.specs.Steps.{Step, stepBytes}
 use Rattle.claims.specs.StandIns.{Request, Run, historyBy, SaysAccepted, DoesNothing, PlacesByRows}
 use Rattle.claims.proofs.Demand1Table.{place-exactly}
-use Rattle.claims.proofs.StandIns.{processed, output, kept}
+use Rattle.claims.proofs.StandIns.{processed, output}
 
 abbrev pub of-two : (calls : List Call) → neverAnew calls ≡ true → Run
 of-two calls kept = record { max = 2; low = omega arith; high = omega arith; calls = calls; kept = kept }

@@ -26,8 +26,8 @@ use Rattle.sessions.specs.Table.{State, fresh as freshState, isOpen, isWaiting,
 use Rattle.sessions.specs.declared.Answer.{Answer}
 use Rattle.session_table.specs.Calls.{freshBytes}
 use Rattle.session_table.specs.Calls as calls
-use Rattle.session_histories.specs.Runs.{Step, stepBytes, bytesAfter}
-use Rattle.session_histories.proofs.Does.{collecting-is, Holds, does, same-bytes, fresh-holds}
+use Rattle.session_histories.specs.Steps.{Step, stepBytes, bytesAfter}
+use Rattle.session_histories.proofs.Does.{collecting-is, KeptAs, does, same-bytes, fresh-kept}
 use Rattle.table_sound.specs.Bytes.{abs}
 use Rattle.claims.specs.Demands.{Serves, Demand3}
 use Rattle.claims.specs.StandIns.{Request, Run, bytesBy, historyBy, SaysAccepted, DoesNothing, PlacesByRows, Invented, Invents, HandsOver, HoldsBack, PlaceCall, TakeUpCall, CollectCall, PlaceRefuses, TakeUpRefuses, CollectRefuses, IsRefused, Refuted}
@@ -54,15 +54,11 @@ abbrev of-two : List Call → List ℕ
 of-two = bytesAfter (freshBytes 2) stepBytes
 
 -- what calls on lent bytes give is computed on the table without bytes
-pub same : (cs : List Call) → SameRun Holds stepBytes (stepTable calls.making) (freshBytes 2) (freshState 2) cs
-same = same-bytes (fresh-holds 2 (omega arith) (omega arith))
+pub same : (cs : List Call) → SameRun KeptAs stepBytes (stepTable calls.making) (freshBytes 2) (freshState 2) cs
+same = same-bytes (fresh-kept 2 (omega arith) (omega arith))
 
 gives : (cs : List Call) (c : Call) → stepBytes (of-two cs) c .0 ≡ stepTable calls.making (reached (freshState 2) (stepTable calls.making) cs) c .0
 gives cs c = does _ _ (same cs .stands) c .answers
-
-pub kept : neverAnew answering-one ≡ true
-unfolding neverAnew
-kept = refl
 
 kept-one : neverAnew placing-one ≡ true
 unfolding neverAnew
@@ -150,10 +146,12 @@ module _ (fresh : ℕ → List ℕ) (step : Step) (meets : Demand3 fresh step) w
     room-for-both : length both ≡ length (reply (w .these)) + length (reply (w .those))
     room-for-both = length-replicate _ 0
 
-    hands-these : step (bytesBy fresh step (w .run)) (toCollect p t both) .0 ≡ collected p t both (done (length (reply (w .these)))) (written both (reply (w .these)))
+    hands-these : step (bytesBy fresh step (w .run)) (toCollect p t both) .0
+        ≡ collected p t both (done (length (reply (w .these)))) (written both (reply (w .these)))
     hands-these = whole-is-there (w .run) p t (w .these) both (w .so) (omega (arith, room-for-both))
 
-    hands-those : step (bytesBy fresh step (w .other)) (toCollect p t both) .0 ≡ collected p t both (done (length (reply (w .those)))) (written both (reply (w .those)))
+    hands-those : step (bytesBy fresh step (w .other)) (toCollect p t both) .0
+        ≡ collected p t both (done (length (reply (w .those)))) (written both (reply (w .those)))
     hands-those = whole-is-there (w .other) p t (w .those) both (w .or-so) (omega (arith, room-for-both))
 
     later-not-invented : (invented : ℕ → ℕ → List ℕ → ℕ × List ℕ) → Invents step invented → 1 < t → ⊥
@@ -173,10 +171,12 @@ module _ (fresh : ℕ → List ℕ) (step : Step) (meets : Demand3 fresh step) w
       let h = historyBy fresh step (w .run) in
       let call = toCollect (w .program) (w .ticket) (w .output) in
       let r : Run = record { max = w .run .max; low = w .run .low; high = w .run .high; calls = call ∷ w .run .calls; kept = w .run .kept } in
-      let now : historyBy fresh step r ≡ collected (w .program) (w .ticket) (w .output) (done (w .length-given)) (w .exit) ∷ h = ap (λ (e : Event). e ∷ h) (w .given) in
+      let e = collected (w .program) (w .ticket) (w .output) (done (w .length-given)) (w .exit) in
+      let now : historyBy fresh step r ≡ e ∷ h = ap (λ (x : Event). x ∷ h) (w .given) in
       let y = serves r .reply-is-yours (w .program) (w .ticket) (w .length-given) (w .output) (w .exit) [] h now in
       let p = gather-append (placing (w .ticket)) (w .later) (placed (w .program) n (done (w .number, w .ticket)) ∷ w .earlier) in
-      let q : placings (w .ticket) (w .later) ++ ((w .number, w .program, n) ∷ placings (w .ticket) (w .earlier)) ≡ (y .number, w .program, length (y .answers)) ∷ [] =
+      let q : placings (w .ticket) (w .later) ++ ((w .number, w .program, n) ∷ placings (w .ticket) (w .earlier))
+      ≡ (y .number, w .program, length (y .answers)) ∷ [] =
       sym (ap (placings (w .ticket)) (w .was-placed) ∙ p ∙ rw (eq-eqb (w .ticket) (w .ticket) refl)) ∙ y .one-placing in
       let asked : n ≡ length (y .answers) = ap (λ (x : ℕ × ℕ × ℕ). x .2) (one-of (placings (w .ticket) (w .later)) (placings (w .ticket) (w .earlier)) q) in
       other (asked ∙ sym (length-numbered 1 (y .answers)) ∙ sym (ap length (y .one-answer-each)) ∙ w .k-answered)

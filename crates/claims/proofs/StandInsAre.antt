@@ -5,7 +5,7 @@ use mathlib.Core.Bool.{Bool, true, cond}
 use mathlib.Core.List.{List, [], _∷_}
 use native.Mathlib.Omega.{arith}
 use lib.Dec.{leb}
-use lib.ListN.{length, getD}
+use lib.ListN.{length, getD, drop}
 use borrow.Author.Tests.{lt-leb}
 use Rattle.calendar.specs.Calendar.{februaryLength, monthLength, realDate, realTime}
 use Rattle.counts.specs.Refusals.{unexpected, allTaken, notTheOne, nothingUnanswered}
@@ -21,7 +21,7 @@ use Rattle.sessions.specs.Runs.{reached, historyOf, neverAnew}
 use Rattle.sessions.specs.Table.{fresh as freshState, isOpen, isWaiting, names, numbered, records, placeIn, place, takeNext, takeHand, takeUp, answerHand, answer}
 use Rattle.sessions.specs.declared.Answer.{Answer}
 use Rattle.session_table.specs.Calls.{freshBytes, placing, placedBytes, collectedOut}
-use Rattle.session_histories.specs.Runs.{Step, stepBytes, bytesAfter}
+use Rattle.session_histories.specs.Steps.{Step, stepBytes, bytesAfter}
 use Rattle.claims.specs.StandIns.{Request, Run, historyBy, SaysAccepted, Invented, Invents, HandsOver, HoldsBack, Exhibited}
 use Rattle.claims.proofs.StandIns.{processed, output, answering-one, same, hands-over-first}
 use Rattle.claims.proofs.StandInReaders.{counts-one, makes-up, getinfo, only-getinfo}
@@ -53,17 +53,14 @@ first-events = answered 1 1 processed (done tt) ∷ tookUp (done (0, 1, 1)) ∷ 
 second-events : Answer → List Event
 second-events a = answered 2 1 a (done tt) ∷ tookUp (done (1, 2, 1)) ∷ placed 2 1 (done (1, 2)) ∷ first-events
 
+serves : (historyOf (freshBytes 2) stepBytes (second processed) ≡ second-events processed)
+    × (historyOf (freshBytes 2) stepBytes (second failed) ≡ second-events failed)
+unfolding first-events second-events second historyOf reached stepTable freshState isOpen isWaiting find put names placeIn place takeNext takeHand takeUp answerHand answer realMoment februaryLength monthLength realDate realTime
+serves = (same (second processed) .history, same (second failed) .history)
+
 serves-first : historyOf (freshBytes 2) stepBytes answering-one ≡ first-events
-unfolding first-events historyOf reached stepTable freshState isOpen isWaiting find put names placeIn place takeNext takeHand takeUp answerHand answer realMoment februaryLength monthLength realDate realTime
-serves-first = same answering-one .history
-
-serves-processed : historyOf (freshBytes 2) stepBytes (second processed) ≡ second-events processed
-unfolding first-events second-events second historyOf reached stepTable freshState isOpen isWaiting find put names placeIn place takeNext takeHand takeUp answerHand answer realMoment februaryLength monthLength realDate realTime
-serves-processed = same (second processed) .history
-
-serves-failed : historyOf (freshBytes 2) stepBytes (second failed) ≡ second-events failed
-unfolding first-events second-events second historyOf reached stepTable freshState isOpen isWaiting find put names placeIn place takeNext takeHand takeUp answerHand answer realMoment februaryLength monthLength realDate realTime
-serves-failed = same (second failed) .history
+unfolding historyOf second second-events
+serves-first = ap (drop 3) (serves .0)
 
 is-second : (a : Answer) {h : List Event} → h ≡ second-events a → Request h 2 2 (a ∷ [])
 unfolding second-events accepted numbered gather collection
@@ -87,7 +84,8 @@ second-stands : (f : List ℕ → ℕ → ℕ → List ℕ → Event × List ℕ
 unfolding historyOf reached butCollects second
 second-stands f a e = is-second a e
 
-accepts : (step : Step) → ((a : Answer) → historyOf (freshBytes 2) stepBytes (second a) ≡ second-events a → Request (historyBy freshBytes step (second-run a)) 2 2 (a ∷ []))
+accepts : (step : Step)
+    → ((a : Answer) → historyOf (freshBytes 2) stepBytes (second a) ≡ second-events a → Request (historyBy freshBytes step (second-run a)) 2 2 (a ∷ []))
     → SaysAccepted freshBytes step 2 2
 accepts step stands =
     record {
@@ -96,8 +94,8 @@ accepts step stands =
       run = second-run processed;
       other = second-run failed;
       one-max = refl;
-      so = stands processed serves-processed;
-      or-so = stands failed serves-failed;
+      so = stands processed (serves .0);
+      or-so = stands failed (serves .1);
       they-differ = differ;
     }
 
@@ -105,7 +103,8 @@ accepts step stands =
 invents : List ℕ → ℕ → ℕ → List ℕ → Event × List ℕ
 invents b p t out = cond (leb t 1) (stepBytes b (toCollect p t out)) (collected p t out (done 0) out, b)
 
-same-collected : {p t n m : ℕ} {out exit left : List ℕ} → collected p t out (done n) exit ≡ collected p t out (done m) left → _≡_ {A = ℕ × List ℕ} (n, exit) (m, left)
+same-collected : {p t n m : ℕ} {out exit left : List ℕ} → collected p t out (done n) exit ≡ collected p t out (done m) left
+    → _≡_ {A = ℕ × List ℕ} (n, exit) (m, left)
 same-collected e = cc
 
 inventing : Invents (butCollects invents) (λ p t out. (0, out))
@@ -124,7 +123,7 @@ held-back =
       run = second-run processed;
       program = 2;
       ticket = 2;
-      whole = second-stands holds processed serves-processed;
+      whole = second-stands holds processed (serves .0);
       output = output;
       enough = short;
       number = notTheOne;
@@ -151,7 +150,7 @@ one-invented =
       output = output;
       length-given = 0;
       exit = output;
-      was-collected = ap (λ (h : List Event). collected 2 2 output (done 0) output ∷ h) serves-processed;
+      was-collected = ap (λ (h : List Event). collected 2 2 output (done 0) output ∷ h) (serves .0);
       not-so = nothing-written;
     }
 
@@ -180,7 +179,8 @@ shortened-kept : neverAnew shortened ≡ true
 unfolding shortened neverAnew
 shortened-kept = refl
 
-shortened-events : historyBy freshBytes shortens (of-two shortened shortened-kept) ≡ answered 1 1 processed (done tt) ∷ tookUp (done (0, 1, 1)) ∷ placed 1 2 (done (0, 1)) ∷ []
+shortened-events : historyBy freshBytes shortens (of-two shortened shortened-kept)
+    ≡ answered 1 1 processed (done tt) ∷ tookUp (done (0, 1, 1)) ∷ placed 1 2 (done (0, 1)) ∷ []
 unfolding historyOf reached shortens shortened stepBytes first-events asking
 shortened-events = ap (asking 2) serves-first
 

@@ -52,7 +52,7 @@ use Rattle.session_table.specs.Calls.{Beyond, making, madeBytes, placing, place
 use Rattle.session_table.specs.Collect.{Collects}
 use Rattle.session_table.specs.Paper.{paperMade, paperPlaced, paperTakenUp, paperAnswered}
 use Rattle.session_table.specs.declared.Collected.{Collected}
-use Rattle.session_histories.specs.Runs.{Step, stepBytes, bytesAfter}
+use Rattle.session_histories.specs.Steps.{Step, stepBytes, bytesAfter}
 use Rattle.claims.specs.Exactly.{Exactly, Obeys, OneResult}
 use Rattle.claims.specs.Fits.{Fits}
 use Rattle.claims.specs.NameRows.{ReadNameRow, WriteNameRow}

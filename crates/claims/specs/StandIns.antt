@@ -12,7 +12,7 @@ use Rattle.sessions.specs.Runs.{historyOf, neverAnew}
 use Rattle.sessions.specs.Table.{numbered, records}
 use Rattle.sessions.specs.declared.Answer.{Answer}
 use Rattle.session_table.specs.Calls.{freshBytes}
-use Rattle.session_histories.specs.Runs.{Step, stepBytes, bytesAfter}
+use Rattle.session_histories.specs.Steps.{Step, stepBytes, bytesAfter}
 use Rattle.statement.specs.declared.Statement.{Statement}
 use Rattle.job.specs.declared.StatementAt.{StatementAt}
 use Rattle.table_sound.specs.Bytes.{abs}

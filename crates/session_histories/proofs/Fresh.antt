@@ -1,4 +1,4 @@
--- The fresh table's bytes hold the fresh table without bytes. Assumes nothing.
+-- The fresh table's bytes hold the fresh table without bytes.
 use Prim.Native.Nat.{ℕ, zero, suc, _+_, _-_, _*_, _≤_}
 use mathlib.Core.Path.{_≡_, refl, _∙_}
 use mathlib.Core.Bool.{true}

@@ -3,7 +3,7 @@ use Prim.Native.Nat.{ℕ, _+_, _≤_}
 use mathlib.Core.Path.{_≡_, refl, _∙_, ap, sym}
 use mathlib.Core.Bool.{true, false, false≢true}
 use mathlib.Core.Logic.{⊎-elim}
-use mathlib.Core.List.{List, [], _∷_}
+use mathlib.Core.List.{List, [], _∷_, _++_}
 use native.Mathlib.Omega.{arith}
 use borrow.Author.Tests.{eq-eqb, ne-eqb}
 use Rattle.counts.specs.Limits.{sessions}
@@ -12,9 +12,9 @@ use Rattle.sessions.specs.History.{Call, Event, gather, placing, placing
 use Rattle.sessions.specs.Runs.{reached, historyOf, neverAnew, wasMade}
 use Rattle.sessions.proofs.Parts.{Sound}
 use Rattle.sessions.specs.Table.{State, fresh}
-use Rattle.sessions.proofs.Did.{Idle, no-make, other-make, no-place, no-take-up, again, no-answer, no-collect, Did, nothing, makes, places, takes, answers, collects, stepTable, did, anew-exactly}
+use Rattle.sessions.proofs.Did.{Idle, not-made, no-place, no-take-up, again, no-answer, no-collect, Did, nothing, makes, places, takes, answers, collects, stepTable, did, anew-exactly}
 use Rattle.sessions.proofs.Laws.{either}
-use Rattle.sessions.proofs.Runs.{always}
+use Rattle.sessions.proofs.Runs.{Keeps, Before, always, before}
 use Rattle.sessions.proofs.SoundKept.{fresh-sound, is-session, is-open, tickets-below, sound-kept}
 use Rattle.sessions.proofs.Standing.{Standing, new, apart, its-placing, its-answer, its-collection}
 
@@ -31,14 +31,13 @@ unfolding fresh gather accepted
 fresh-agrees max l h =
     record {
       sound = fresh-sound max l h;
-      standing = λ t. new (record { nowhere = λ l s e. omega arith; no-placing = refl; no-answer = refl; no-reply = refl });
+      standing = λ t. new (λ l s e. omega arith) (record { no-placing = refl; no-answer = refl; no-reply = refl });
     }
 
 module _ (σ : State) (h : List Event) (ok : Sound σ) (A : Stands σ h) where
   idle : {e : Event} → Idle σ e → Stands σ (e ∷ h)
   unfolding gather placing accepted collection
-  idle (no-make max k i) = A
-  idle (other-make m max r) = A
+  idle (not-made m max r q) = A
   idle (no-place p n k i) = A
   idle (no-take-up k i) = A
   idle (again s q) = A
@@ -77,10 +76,17 @@ module _ (σ : State) (h : List Event) (ok : Sound σ) (A : Stands σ h) where
       (apart (σ .last) (σ .slot) u _ _ _ s (σ .last) _ (omega arith) (λ k f. d (sym (w .ticket) ∙ f)) (λ k f. omega arith) (A u)))
       (either t u)
 
--- from any start that agrees with a history of nothing
-pub agrees : (elsewhere : List ℕ → ℕ → Result (Unit {0})) (start : State) → Agrees start [] → (cs : List Call) → neverAnew cs ≡ true
-    → Agrees (reached start (stepTable elsewhere) cs) (historyOf start (stepTable elsewhere) cs)
-agrees elsewhere start first =
-    always start (stepTable elsewhere) Agrees first (λ σ h c q A.
-    let d = did σ elsewhere c in
-    record { sound = sound-kept d (A .sound); standing = stands σ h (A .sound) (A .standing) (sym (anew-exactly σ elsewhere c) ∙ q) d })
+module _ (elsewhere : List ℕ → ℕ → Result (Unit {0})) where
+  agrees-kept : Keeps (stepTable elsewhere) Agrees
+  agrees-kept σ h c q A =
+      let d = did σ elsewhere c in
+      record { sound = sound-kept d (A .sound); standing = stands σ h (A .sound) (A .standing) (sym (anew-exactly σ elsewhere c) ∙ q) d }
+
+  -- from any start that agrees with a history of nothing
+  module _ (start : State) (begins : Agrees start []) (cs : List Call) (kept : neverAnew cs ≡ true) where
+    pub agrees : Agrees (reached start (stepTable elsewhere) cs) (historyOf start (stepTable elsewhere) cs)
+    agrees = always (stepTable elsewhere) Agrees start begins agrees-kept cs kept
+
+    pub agreed : (later earlier : List Event) (e : Event) → historyOf start (stepTable elsewhere) cs ≡ later ++ (e ∷ earlier)
+        → Before (stepTable elsewhere) Agrees e earlier
+    agreed = before (stepTable elsewhere) Agrees start begins agrees-kept cs kept

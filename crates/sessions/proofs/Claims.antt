@@ -2,7 +2,7 @@
 -- ones included.
 -- A history has the newest event first, so `later ++ (e ∷ earlier)` is a history in which e happened, with what came after and before.
 use Prim.Native.Nat.{ℕ, suc, _+_, _≤_}
-use mathlib.Core.Path.{_≡_, refl, _∙_, ap, sym, subst}
+use mathlib.Core.Path.{_≡_, refl, _∙_, ap, sym}
 use mathlib.Core.Bool.{true}
 use mathlib.Core.List.{List, [], _∷_, _++_, append-nil}
 use mathlib.Core.Logic.{⊎-elim}
@@ -17,15 +17,15 @@ use Rattle.sessions.specs.Runs.{reached, historyOf, neverAnew, Refuses}
 use Rattle.sessions.specs.Table.{State, numbered, records}
 use Rattle.sessions.specs.Sound.{isReal}
 use Rattle.sessions.specs.declared.Answer.{Answer}
-use Rattle.sessions.proofs.Agrees.{Agrees, agrees}
+use Rattle.sessions.proofs.Agrees.{Agrees, agrees, agreed}
 use Rattle.sessions.proofs.Answers.{there, not-again-number, given-new, given-once, collected-gone, closed-or-waits}
 use Rattle.sessions.proofs.Did.{stepTable}
 use Rattle.sessions.proofs.Laws.{nil≢mid, head-same, tail-same}
 use Rattle.sessions.proofs.Owing.{collect-owed, collect-yours, in-order}
 use Rattle.sessions.proofs.SoundKept.{is-session}
 use Rattle.sessions.proofs.Past.{gather-append, accepted-append, accepted-at}
-use Rattle.sessions.proofs.Runs.{moment}
-use Rattle.sessions.proofs.Told.{Told, Collection, told-by}
+use Rattle.sessions.proofs.Runs.{Before}
+use Rattle.sessions.proofs.Told.{Told, told-by}
 
 length-zero : {A : Type 0} (l : List A) → length l ≡ 0 → l ≡ []
 length-zero [] e = refl
@@ -37,9 +37,6 @@ unfolding numbered
 numbered-place k [] xs ys c a e = absurd (nil≢mid xs ys (c, a) e)
 numbered-place k (b ∷ l) [] ys c a e = let z : k ≡ c = ap (λ x. x .0) (head-same e) in omega arith
 numbered-place k (b ∷ l) (x ∷ xs) ys c a e = let z = numbered-place (suc k) l xs ys c a (tail-same e) in omega arith
-
-yours : {σ : State} {h : List Event} {p t n : ℕ} {out exit : List ℕ} → Agrees σ h → Collection σ p t out n exit → Yours p t out n exit h
-yours {σ} {h} A c = rw (c .its-length, c .its-output) (collect-yours σ h A (c .collects-it))
 
 module _ (elsewhere : List ℕ → ℕ → Result (Unit {0})) (start : State) (begins : Agrees start []) (cs : List Call) (kept : neverAnew cs ≡ true) where
   abbrev σ : State
@@ -62,39 +59,25 @@ module _ (elsewhere : List ℕ → ℕ → Result (Unit {0})) (start : State) (b
   answers-in-order = in-order σ h now
 
   module _ (later earlier : List Event) where
-    -- the table before an event agrees with what came before it, and the event tells of it
-    record Then (e : Event) : Type 0 where
-      before : State
-      after : State
-      agreed : Agrees before earlier
-      tells : Told before e after
-
-    then : (e : Event) → h ≡ later ++ (e ∷ earlier) → Then e
-    then e q =
-        let m = moment start (stepTable elsewhere) cs kept later earlier e q in
-        let τ = reached start (stepTable elsewhere) (m .calls) in
-        record {
-          before = τ;
-          after = stepTable elsewhere τ (m .call) .1;
-          agreed = subst (λ (l : List Event). Agrees τ l) (m .before) (agrees elsewhere start begins (m .calls) (m .kept));
-          tells = told-by elsewhere τ (m .call) (m .now);
-        }
+    -- what an event tells of the table before it, which agreed with what came before
+    then : (e : Event) → h ≡ later ++ (e ∷ earlier)
+        → (m : Before (stepTable elsewhere) Agrees e earlier) × Told (m .table) e (stepTable elsewhere (m .table) (m .call) .1)
+    then e q = let m = agreed elsewhere start begins cs kept later earlier e q in (m, told-by elsewhere (m .table) (m .call) (m .answered-so))
 
     -- "Each reply collected under a ticket holds one record per command of the request that got that ticket, numbered from 1 in
     -- order, carrying exactly the outcome, date and time accepted for that ticket and command."
     pub reply-is-yours : (p t : ℕ) (out : List ℕ) (n : ℕ) (exit : List ℕ) → h ≡ later ++ (collected p t out (done n) exit ∷ earlier)
         → Yours p t out n exit earlier
-    reply-is-yours p t out n exit e = let m = then (collected p t out (done n) exit) e in yours (m .agreed) (m .tells)
+    reply-is-yours p t out n exit e = let (m, w) = then (collected p t out (done n) exit) e in collect-yours (m .table) earlier (m .held) w
 
     -- An answer that was accepted is real, and to a command that there may be.
     pub accepted-in-range : (t c : ℕ) (a : Answer) (r : Unit {0}) → h ≡ later ++ (answered t c a (done r) ∷ earlier)
         → (1 ≤ c) × (c ≤ commands) × (isReal a ≡ true)
     accepted-in-range t c a r e =
-        let m = then (answered t c a (done r)) e in
-        let w = m .tells in
-        let ok = m .agreed .sound in
+        let (m, w) = then (answered t c a (done r)) e in
+        let ok = m .held .sound in
         let l = ok .in-hand (w .number) (w .answers-it .in-hand) in
-        let x = is-session (m .before) ok (λ x. x .count) refl (w .number) (omega arith) in
+        let x = is-session (m .table) ok (λ x. x .count) refl (w .number) (omega arith) in
         (omega (arith, w .answers-it .command), omega (arith, w .answers-it .command, x .count-high), w .answers-it .real)
 
     -- "A collected ticket is never honoured again."
@@ -102,7 +85,7 @@ module _ (elsewhere : List ℕ → ℕ → Result (Unit {0})) (start : State) (b
         → Refuses (stepTable elsewhere) σ t
     unfolding gather collection
     never-again p t out n exit e =
-        collected-gone elsewhere σ h now t (collections t later) (collections t earlier) p
+        collected-gone σ h now elsewhere t (collections t later) (collections t earlier) p
         (ap (collections t) e ∙ gather-append (collection t) later (collected p t out (done n) exit ∷ earlier) ∙ rw (eq-eqb t t refl))
 
     module _ (p n s t : ℕ) (e : h ≡ later ++ (placed p n (done (s, t)) ∷ earlier)) where
@@ -115,10 +98,10 @@ module _ (elsewhere : List ℕ → ℕ → Result (Unit {0})) (start : State) (b
       since : Since
       unfolding gather placing collection accepted
       since =
-          let m = then (placed p n (done (s, t))) e in
-          let w = given-new elsewhere (m .before) earlier (m .agreed) t (m .tells .1) in
+          let (m, k) = then (placed p n (done (s, t))) e in
+          let w = given-new (m .table) earlier (m .held) t (k .1) in
           record {
-            one-placing = given-once elsewhere σ h now t (s, p, n) (placings t later)
+            one-placing = given-once σ h now t (s, p, n) (placings t later)
                 (ap (placings t) e ∙ gather-append (placing t) later _ ∙ rw (eq-eqb t t refl, w .no-placing));
             its-answers = ap (accepted t) e ∙ accepted-append t later _ ∙ rw (w .no-answer);
             replies = ap (collections t) e ∙ gather-append (collection t) later _ ∙ rw (w .no-reply, append-nil);
@@ -127,7 +110,7 @@ module _ (elsewhere : List ℕ → ℕ → Result (Unit {0})) (start : State) (b
       few : length (accepted t later) ≤ n
       few =
           let k = ap length (since .its-answers) in
-          ⊎-elim (λ z. omega arith) (λ z. omega arith) (closed-or-waits elsewhere σ h now t s p n (since .one-placing))
+          ⊎-elim (λ z. omega arith) (λ z. omega arith) (closed-or-waits σ h now t s p n (since .one-placing))
 
       -- Once the last command is answered each is, and nothing was accepted under the ticket since.
       module _ (newer older : List Event) (a : Answer) (r : Unit {0}) (q : later ≡ newer ++ (answered t n a (done r) ∷ older)) where
@@ -137,7 +120,7 @@ module _ (elsewhere : List ℕ → ℕ → Result (Unit {0})) (start : State) (b
         pub each-is-answered : length (accepted t later) ≡ n
         each-is-answered =
             let o = answers-in-order t in
-            let k : n ≡ 1 + length (accepted t older) = numbered-place 1 (o .0) (accepted t older) (accepted t newer) n a (sym (o .1) ∙ since .its-answers ∙ parts) in
+            let k = numbered-place 1 (o .0) (accepted t older) (accepted t newer) n a (sym (o .1) ∙ since .its-answers ∙ parts) in
             let l = ap length parts ∙ length-append (accepted t older) ((n, a) ∷ accepted t newer) in
             omega (arith, few)
 
@@ -146,7 +129,7 @@ module _ (elsewhere : List ℕ → ℕ → Result (Unit {0})) (start : State) (b
             → stepTable elsewhere σ (toCollect p t out) .0 ≡ collectedAs p t out (ifRoom (records (accepted t later)) (length out))
         reply-is-there out f =
             rw (← (since .its-answers))
-            (there elsewhere σ h now t s p n out (since .one-placing) (ap length (since .its-answers) ∙ each-is-answered) (since .replies ∙ f))
+            (there σ h now elsewhere t s p n out (since .one-placing) (ap length (since .its-answers) ∙ each-is-answered) (since .replies ∙ f))
 
       -- The reply stays what it is: once every command is answered, nothing more is accepted under the ticket.
       pub reply-stays : (newer older : List Event) → later ≡ newer ++ older → length (accepted t older) ≡ n → accepted t later ≡ accepted t older
@@ -157,4 +140,4 @@ module _ (elsewhere : List ℕ → ℕ → Result (Unit {0})) (start : State) (b
 
       -- "A number is taken from its placing until its collection": no placing gives it again.
       pub number-is-held : (q m u : ℕ) → collections t later ≡ [] → stepTable elsewhere σ (toPlace q m) .0 ≡ placed q m (done (s, u)) → ⊥
-      number-is-held q m u f = not-again-number elsewhere σ h now t s p n q m u (since .one-placing) (since .replies ∙ f)
+      number-is-held q m u f = not-again-number σ h now elsewhere t s p n q m u (since .one-placing) (since .replies ∙ f)

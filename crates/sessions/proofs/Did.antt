@@ -1,7 +1,7 @@
 -- One call of the table without bytes, and what it did, in six cases. Every invariant goes by these; nothing above this file looks into a call.
 use Prim.Native.Nat.{ℕ, _+_, _≤_, _<_}
 use mathlib.Core.Path.{_≡_, refl}
-use mathlib.Core.Bool.{Bool, true, false, cond, _&&_}
+use mathlib.Core.Bool.{true, false, cond, _&&_}
 use mathlib.Core.List.{List}
 use borrow.Author.Tests.{eqb-true, leb-true, ltb-true, ltb-false}
 use lib.Dec.{leb, ltb}
@@ -9,7 +9,7 @@ use lib.ListN.{length}
 use Rattle.counts.specs.Limits.{commands, programs, sessions, ticketMost}
 use Rattle.counts.specs.Refusals.{notReal, notARecord, tooLittleRoom, allTaken, notTheOne, outOfRange, noTicketLeft, unsound, nothingUnanswered}
 use Rattle.sessions.specs.Find.{Found, none, at}
-use Rattle.sessions.specs.History.{itself, other, Call, toMake, toPlace, toTakeUp, toAnswer, toCollect, Event, made, placed, tookUp, answered, collected, written, collectedAs}
+use Rattle.sessions.specs.History.{Lent, itself, other, Call, toMake, toPlace, toTakeUp, toAnswer, toCollect, Event, made, placed, tookUp, answered, collected, written, collectedAs}
 use Rattle.sessions.specs.Runs.{makesAnew, wasMade, refusedWith}
 use Rattle.sessions.specs.declared.Answer.{Answer}
 use Rattle.record.specs.Record.{isOutcome}
@@ -33,8 +33,7 @@ stepTable elsewhere σ (toCollect p t out) = (collectedAs p t out (collect σ p 
 
 -- refused, given again what is in hand, or done to other memory
 pub data Idle (σ : State) : Event → Type 0 where
-  no-make : (max k i : ℕ) → Idle σ (made itself max (refused k i))
-  other-make : (m : List ℕ) (max : ℕ) (r : Result (Unit {0})) → Idle σ (made (other m) max r)
+  not-made : (m : Lent) (max : ℕ) (r : Result (Unit {0})) → wasMade (made m max r) ≡ false → Idle σ (made m max r)
   no-place : (p n k i : ℕ) → Idle σ (placed p n (refused k i))
   no-take-up : (k i : ℕ) → Idle σ (tookUp (refused k i))
   again : (s : ℕ) → σ .hand ≡ at s → Idle σ (tookUp (given σ s))
@@ -89,12 +88,15 @@ module _ (σ : State) where
         if-cond DidPlace (ltb (σ .last) ticketMost)
         (λ q.
         let b = halves (within 1 p programs) (within 1 n commands) r in
-        places (record { free = eqb-true _ _ e; below = l; program-range = in-range 1 p programs (b .0); count-range = in-range 1 n commands (b .1); room = ltb-true _ _ q }))
+        let k = in-range 1 p programs (b .0) in
+        places (record { free = eqb-true _ _ e; below = l; program-range = k; count-range = in-range 1 n commands (b .1); room = ltb-true _ _ q }))
         (λ q. nothing (no-place p n noTicketLeft 0) refl)
 
-    pub did-place : DidPlace (place σ p n)
+    did-place : DidPlace (place σ p n)
     unfolding place
-    did-place = if-cond DidPlace (within 1 p programs && within 1 n commands) (λ r. place-in r _ (search-find _ _)) (λ q. nothing (no-place p n outOfRange 0) refl)
+    did-place =
+        if-cond DidPlace (within 1 p programs && within 1 n commands)
+        (λ r. place-in r _ (search-find _ _)) (λ q. nothing (no-place p n outOfRange 0) refl)
 
   abbrev DidTakeUp : Result (ℕ × ℕ × ℕ) × State → Type 0
   DidTakeUp r = Did σ (tookUp (r .0)) (r .1)
@@ -142,49 +144,37 @@ module _ (σ : State) where
         collects (record { program-low = in-range 1 p programs r .0; program = k .0; ticket = k .1; closed = k .2; fits = leb-true _ _ q }))
         (λ q. nothing (no-collect p t out tooLittleRoom 0) refl)
 
-    pub did-collect : DidCollect (collect σ p t (length out))
+    did-collect : DidCollect (collect σ p t (length out))
     unfolding collect
     did-collect = if-cond DidCollect (within 1 p programs) (λ r. collect-from r _ (search-find _ _)) (λ q. nothing (no-collect p t out outOfRange 0) refl)
-
-  pub did-take-up : Did σ (tookUp (takeUp σ .0)) (takeUp σ .1)
-  unfolding takeUp
-  did-take-up = take-hand (σ .hand) refl
-
-  pub did-answer : (t c : ℕ) (a : Answer) → Did σ (answered t c a (answer σ t c a .0)) (answer σ t c a .1)
-  unfolding answer
-  did-answer t c a = answer-hand t c a (σ .hand) refl
 
   did-make : (max : ℕ) → Did σ (made itself max (make σ max .0)) (make σ max .1)
   unfolding make
   did-make max =
       if-cond (λ (x : Result (Unit {0}) × State). Did σ (made itself max (x .0)) (x .1)) (within 1 max sessions)
       (λ q. makes (in-range 1 max sessions q))
-      (λ q. nothing (no-make max outOfRange 0) refl)
+      (λ q. nothing (not-made itself max (refused outOfRange 0) refl) refl)
 
   module _ (elsewhere : List ℕ → ℕ → Result (Unit {0})) where
     pub did : (c : Call) → Did σ (stepTable elsewhere σ c .0) (stepTable elsewhere σ c .1)
-    unfolding stepTable
+    unfolding stepTable takeUp answer
     did (toMake itself max) = did-make max
-    did (toMake (other m) max) = nothing (other-make m max (elsewhere m max)) refl
+    did (toMake (other m) max) = nothing (not-made (other m) max (elsewhere m max) refl) refl
     did (toPlace p n) = did-place p n
-    did toTakeUp = did-take-up
-    did (toAnswer t c a) = did-answer t c a
+    did toTakeUp = take-hand (σ .hand) refl
+    did (toAnswer t c a) = answer-hand t c a (σ .hand) refl
     did (toCollect p t out) = did-collect p t out
 
     -- the calls that make the table anew are those that say so
     pub anew-exactly : (c : Call) → makesAnew c ≡ wasMade (stepTable elsewhere σ c .0)
     unfolding stepTable make
-    anew-exactly (toMake itself max) = go (within 1 max sessions)
-      where
-        go : (x : Bool) → x ≡ wasMade (made itself max (cond {A = Result (Unit {0}) × State} x (done tt, fresh max) (refused outOfRange 0, σ) .0))
-        go true = refl
-        go false = refl
+    anew-exactly (toMake itself max) =
+        elim (within 1 max sessions)
+        as (λ x. x ≡ wasMade (made itself max (cond {A = Result (Unit {0}) × State} x (done tt, fresh max) (refused outOfRange 0, σ) .0)))
+        [ true ↦ refl | false ↦ refl ]
     anew-exactly (toMake (other m) max) = refl
     anew-exactly (toPlace p n) = refl
     anew-exactly toTakeUp = refl
     anew-exactly (toAnswer t c a) = refl
-    anew-exactly (toCollect p t out) = go (collect σ p t (length out) .0)
-      where
-        go : (r : Result (List ℕ)) → false ≡ wasMade (collectedAs p t out r)
-        go (refused k i) = refl
-        go (done x) = refl
+    anew-exactly (toCollect p t out) =
+        elim (collect σ p t (length out) .0) as (λ r. false ≡ wasMade (collectedAs p t out r)) [ refused k i ↦ refl | done x ↦ refl ]

@@ -10,16 +10,16 @@ use lib.ListN.{length}
 use Rattle.counts.specs.Limits.{programs}
 use Rattle.counts.specs.Refusals.{tooLittleRoom, notTheOne}
 use Rattle.sessions.specs.Find.{Found, none, at}
-use Rattle.sessions.specs.History.{Event, written, placings, accepted, collections}
+use Rattle.sessions.specs.History.{Event, placings, accepted, collections}
 use Rattle.sessions.specs.Owed.{owedOf, owed, Yours}
 use Rattle.sessions.specs.declared.Answer.{Answer}
 use Rattle.counts.specs.Result.{refused, done}
 use Rattle.sessions.specs.Table.{State, within, isReady, reply, numbered, collectFrom, collect}
 use Rattle.sessions.proofs.Agrees.{Agrees}
-use Rattle.sessions.proofs.Did.{Collects}
 use Rattle.sessions.proofs.Laws.{Search, miss, hit, search-find, in-range, is-ready}
 use Rattle.sessions.proofs.SoundKept.{is-session}
-use Rattle.sessions.proofs.Standing.{Standing, new, held, gone, At, held-at}
+use Rattle.sessions.proofs.Told.{Collection}
+use Rattle.sessions.proofs.Standing.{Held, Standing, new, held, gone, held-at}
 
 pub length-numbered : (k : ℕ) (l : List Answer) → length (numbered k l) ≡ length l
 unfolding numbered
@@ -33,7 +33,7 @@ answer-cond false x y z v f = refl
 
 module _ (σ : State) (h : List Event) (A : Agrees σ h) where
   -- the history of the ticket that stands at s
-  standing-at : (s : ℕ) → 1 ≤ σ .slot s .ticket → (t : ℕ) → σ .slot s .ticket ≡ t → At (σ .slot s) s (placings t h) (accepted t h) (collections t h)
+  standing-at : (s : ℕ) → 1 ≤ σ .slot s .ticket → (t : ℕ) → σ .slot s .ticket ≡ t → Held t (placings t h) (accepted t h) (collections t h) s (σ .slot s)
   standing-at s l t e =
       held-at (σ .last) (σ .slot) t _ _ _ s e (omega arith) (omega (arith, is-session σ (A .sound) (λ x. x .ticket) refl s l .ticket-high))
       (λ i k. sym (A .sound .distinct s i l (e ∙ sym k))) (A .standing t)
@@ -43,12 +43,12 @@ module _ (σ : State) (h : List Event) (A : Agrees σ h) where
     none-owed : ((s : ℕ) → s < σ .max → isReady p t (σ .slot s) ≡ false) → {ps : List (ℕ × ℕ × ℕ)} {qs : List (ℕ × Answer)} {rs : List ℕ}
         → Standing (σ .last) (σ .slot) t ps qs rs → refused notTheOne 0 ≡ owedOf p room ps qs rs
     unfolding owedOf isReady
-    none-owed m (new w) = rw (w .no-placing)
-    none-owed m (held w) =
-        let x = is-session σ (A .sound) (λ x. x .ticket) refl (w .number) (rw (w .there, w .its-ticket) (w .ticket-low)) in
-        let k = rw (w .there, eq-eqb (w .what .ticket) t (w .its-ticket), and-true) at (m (w .number) (x .number)) in
+    none-owed m (new d w) = rw (w .no-placing)
+    none-owed m (held s y q w) =
+        let x = is-session σ (A .sound) (λ x. x .ticket) refl s (rw (q, w .its-ticket) (w .ticket-low)) in
+        let k = rw (q, eq-eqb (y .ticket) t (w .its-ticket), and-true) at (m s (x .number)) in
         rw (w .one-placing, w .its-answers, w .no-reply, length-numbered, k)
-    none-owed m (gone w) = rw (w .one-placing, w .one-reply)
+    none-owed m (gone s y l d w) = rw (w .one-placing, w .one-reply)
 
     found-owed : (f : Found) → Search (σ .max) (λ s. isReady p t (σ .slot s)) f
         → collectFrom σ room f .0 ≡ owedOf p room (placings t h) (accepted t h) (collections t h)
@@ -58,7 +58,8 @@ module _ (σ : State) (h : List Event) (A : Agrees σ h) where
         let k = is-ready p t (σ .slot s) e in
         let low = is-session σ (A .sound) (λ x. x .program) refl s (omega (arith, in-range 1 p programs r)) .ticket-low in
         let w = standing-at s low t (k .1) in
-        rw (w .one-placing, w .its-answers, w .no-reply, length-numbered, eq-eqb _ _ (k .0), eq-eqb _ _ (k .2)) (answer-cond (leb (length (reply (σ .slot s))) room) (done (reply (σ .slot s)), _) (done (reply (σ .slot s))) (refused tooLittleRoom 0) σ (λ q. refl))
+        rw (w .one-placing, w .its-answers, w .no-reply, length-numbered, eq-eqb _ _ (k .0), eq-eqb _ _ (k .2))
+        (answer-cond (leb (length (reply (σ .slot s))) room) _ (done (reply (σ .slot s))) (refused tooLittleRoom 0) σ (λ q. refl))
 
   -- THE LAW OF THE COLLECTION: it answers what the history owes.
   pub collect-owed : (p t room : ℕ) → collect σ p t room .0 ≡ owed h p t room
@@ -68,17 +69,14 @@ module _ (σ : State) (h : List Event) (A : Agrees σ h) where
   -- the answers accepted under a ticket are numbered from 1
   pub in-order : (t : ℕ) → (l : List Answer) × (accepted t h ≡ numbered 1 l)
   unfolding numbered
-  in-order t = go (A .standing t)
-    where
-      go : Standing (σ .last) (σ .slot) t (placings t h) (accepted t h) (collections t h) → (l : List Answer) × (accepted t h ≡ numbered 1 l)
-      go (new w) = ([], w .no-answer)
-      go (held w) = (w .what .answers, w .its-answers)
-      go (gone w) = (w .what .answers, w .its-answers)
+  in-order t =
+      elim (A .standing t) [ new d w ↦ ([], w .no-answer) | held s x q w ↦ (x .answers, w .its-answers) | gone s x l d w ↦ (x .answers, w .its-answers) ]
 
   -- whoever was given something
-  pub collect-yours : {s p t : ℕ} {out : List ℕ} → Collects σ s p t out
-      → Yours p t out (length (reply (σ .slot s))) (written out (reply (σ .slot s))) h
-  collect-yours {s} {p} {t} w =
+  pub collect-yours : {p t n : ℕ} {out exit : List ℕ} → Collection σ p t out n exit → Yours p t out n exit h
+  collect-yours {t = t} {out = out} c =
+      let s = c .number in
+      let w = c .collects-it in
       let x = is-session σ (A .sound) (λ x. x .program) refl s (omega (arith, w .program, w .program-low)) in
       let k = standing-at s (x .ticket-low) t (w .ticket) in
       record {
@@ -87,7 +85,7 @@ module _ (σ : State) (h : List Event) (A : Agrees σ h) where
         one-placing = rw (← (w .program), w .closed) (k .one-placing);
         one-answer-each = k .its-answers;
         not-collected = k .no-reply;
-        its-length = refl;
-        in-the-output = w .fits;
-        its-records = refl;
+        its-length = c .its-length;
+        in-the-output = rw (c .its-length) (w .fits);
+        its-records = c .its-output;
       }

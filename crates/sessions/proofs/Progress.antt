@@ -63,7 +63,7 @@ mark-comes-last σ m =
 module _ (elsewhere : List ℕ → ℕ → Result (Unit {0})) (σ : State) (h : List Event) (A : Agrees σ h) where
   waits-given : (s : ℕ) → length (σ .slot s .answers) < σ .slot s .count → (x : ℕ × ℕ × ℕ) × (takeUp σ .0 ≡ done x)
   unfolding takeUp takeHand takeNext isWaiting
-  waits-given s w = go (σ .hand)
+  waits-given s w = elim (σ .hand) as (λ f. (x : ℕ × ℕ × ℕ) × (takeHand σ f .0 ≡ done x)) [ none ↦ next _ (search-find _ _) | at i ↦ (_, refl) ]
     where
       next : (f : Found) → Search (σ .max) (λ i. isWaiting (σ .slot (turn σ i))) f → (x : ℕ × ℕ × ℕ) × (takeNext σ f .0 ≡ done x)
       next none (miss m) =
@@ -71,12 +71,8 @@ module _ (elsewhere : List ℕ → ℕ → Result (Unit {0})) (σ : State) (h : 
           absurd (false≢true (sym (m (u .place) (u .below)) ∙ ap (λ j. isWaiting (σ .slot j)) (u .is-it) ∙ lt-ltb _ _ w))
       next (at i) k = (_, refl)
 
-      go : (f : Found) → (x : ℕ × ℕ × ℕ) × (takeHand σ f .0 ≡ done x)
-      go none = next _ (search-find _ _)
-      go (at i) = (_, refl)
-
   pub unanswered-is-given : (t s p n : ℕ) → placings t h ≡ (s, p, n) ∷ [] → length (accepted t h) < n
       → (x : ℕ × ℕ × ℕ) × (stepTable elsewhere σ toTakeUp .0 ≡ tookUp (done x))
   unfolding stepTable
   unanswered-is-given t s p n e l =
-      ⊎-elim (λ z. absurd (omega arith)) (λ z. let x = waits-given s (z .1) in (x .0, ap tookUp (x .1))) (closed-or-waits elsewhere σ h A t s p n e)
+      ⊎-elim (λ z. absurd (omega arith)) (λ z. let x = waits-given s (z .1) in (x .0, ap tookUp (x .1))) (closed-or-waits σ h A t s p n e)

@@ -1,46 +1,44 @@
 -- What holds of every run, over any start and any step: what each call keeps, a history taken apart at one of its events, and two ways to
 -- keep a table that answer alike.
 use Prim.Native.Nat.{ℕ}
-use mathlib.Core.Path.{_≡_, refl, _∙_, sym, ap₂}
+use mathlib.Core.Path.{_≡_, refl, _∙_, sym, subst, ap₂}
 use mathlib.Core.Bool.{true, false, not}
 use mathlib.Core.List.{List, [], _∷_, _++_}
 use borrow.Author.Tests.{not-true}
 use Rattle.sessions.specs.History.{Call, toPlace, toTakeUp, toAnswer, toCollect, Event}
 use Rattle.sessions.specs.Runs.{StepOf, reached, historyOf, makesAnew, neverAnew, Refuses}
-use Rattle.sessions.proofs.Laws.{halves, nil≢cons, head-same, tail-same}
+use Rattle.sessions.proofs.Laws.{halves, nil≢mid, head-same, tail-same}
 
 -- the last of calls that make nothing anew, and those before it
 anew-parts : (c : Call) (cs : List Call) → neverAnew (c ∷ cs) ≡ true → (makesAnew c ≡ false) × (neverAnew cs ≡ true)
 unfolding neverAnew
 anew-parts c cs q = let k = halves (not (makesAnew c)) (neverAnew cs) q in (not-true (makesAnew c) (k .0), k .1)
 
-module _ {S : Type 0} (start : S) (step : StepOf S) where
-  -- what holds at the start and is kept by each call that makes nothing anew
-  pub always : (P : S → List Event → Type 0) → P start []
-      → ((s : S) (h : List Event) (c : Call) → makesAnew c ≡ false → P s h → P (step s c .1) (step s c .0 ∷ h))
-      → (cs : List Call) → neverAnew cs ≡ true → P (reached start step cs) (historyOf start step cs)
-  unfolding reached historyOf
-  always P first keeps [] q = first
-  always P first keeps (c ∷ cs) q = let k = anew-parts c cs q in keeps _ _ c (k .0) (always P first keeps cs (k .1))
+-- What holds of the start with a history of nothing, and is kept by each call that makes nothing anew.
+module _ {S : Type 0} (step : StepOf S) (P : S → List Event → Type 0) where
+  abbrev pub Keeps : Type 0
+  Keeps = (s : S) (h : List Event) (c : Call) → makesAnew c ≡ false → P s h → P (step s c .1) (step s c .0 ∷ h)
 
-  -- the moment of an event: the calls before it, and the call
-  pub record Moment (e : Event) (earlier : List Event) : Type 0 where
-    pub calls : List Call
+  -- it held before each event of a history: of that table, with what came earlier; and the event is what the call answered there
+  pub record Before (e : Event) (earlier : List Event) : Type 0 where
+    pub table : S
     pub call : Call
-    pub kept : neverAnew calls ≡ true
-    pub not-anew : makesAnew call ≡ false
-    pub before : historyOf start step calls ≡ earlier
-    pub now : step (reached start step calls) call .0 ≡ e
+    pub held : P table earlier
+    pub answered-so : step table call .0 ≡ e
 
-  pub moment : (cs : List Call) → neverAnew cs ≡ true → (later earlier : List Event) (e : Event) → historyOf start step cs ≡ later ++ (e ∷ earlier)
-      → Moment e earlier
-  unfolding historyOf
-  moment [] q [] earlier e r = absurd (nil≢cons r)
-  moment [] q (x ∷ later) earlier e r = absurd (nil≢cons r)
-  moment (c ∷ cs) q [] earlier e r =
-      let k = anew-parts c cs q in
-      record { calls = cs; call = c; kept = k .1; not-anew = k .0; before = tail-same r; now = head-same r }
-  moment (c ∷ cs) q (x ∷ later) earlier e r = moment cs (anew-parts c cs q .1) later earlier e (tail-same r)
+  module _ (start : S) (first : P start []) (keeps : Keeps) where
+    pub always : (cs : List Call) → neverAnew cs ≡ true → P (reached start step cs) (historyOf start step cs)
+    unfolding reached historyOf
+    always [] q = first
+    always (c ∷ cs) q = let k = anew-parts c cs q in keeps _ _ c (k .0) (always cs (k .1))
+
+    pub before : (cs : List Call) → neverAnew cs ≡ true → (later earlier : List Event) (e : Event) → historyOf start step cs ≡ later ++ (e ∷ earlier)
+        → Before e earlier
+    unfolding historyOf
+    before [] q later earlier e r = absurd (nil≢mid later earlier e r)
+    before (c ∷ cs) q [] earlier e r =
+        record { table = _; call = c; held = subst (P _) (tail-same r) (always cs (anew-parts c cs q .1)); answered-so = head-same r }
+    before (c ∷ cs) q (x ∷ later) earlier e r = before cs (anew-parts c cs q .1) later earlier e (tail-same r)
 
 -- Two ways to keep a table, and which states of one stand for which of the other.
 module _ {S T : Type 0} (R : S → T → Type 0) (stepS : StepOf S) (stepT : StepOf T) where

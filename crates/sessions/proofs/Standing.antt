@@ -10,120 +10,72 @@ use Rattle.sessions.specs.declared.Answer.{Answer}
 use Rattle.sessions.specs.Table.{Slot, openSlot, newSlot, withAnswer, numbered, lowest}
 use Rattle.sessions.proofs.Laws.{put-same, put-other, put-all, numbered-more}
 
--- The placings, acceptances and collections of a ticket t.
-module _ (last : ℕ) (slot : ℕ → Slot) (t : ℕ) (ps : List (ℕ × ℕ × ℕ)) (qs : List (ℕ × Answer)) (rs : List ℕ) where
+-- The placings, acceptances and collections of a ticket t: of one that was never given, of the session x that has it at s, and of the
+-- session x that had it there.
+module _ (t : ℕ) (ps : List (ℕ × ℕ × ℕ)) (qs : List (ℕ × Answer)) (rs : List ℕ) where
   pub record New : Type 0 where
-    pub nowhere : 1 ≤ t → (s : ℕ) → slot s .ticket ≡ t → ⊥
     pub no-placing : ps ≡ []
     pub no-answer : qs ≡ []
     pub no-reply : rs ≡ []
 
-  pub record Held : Type 0 where
-    pub number : ℕ
-    pub what : Slot
-    pub there : slot number ≡ what
+  pub record Held (s : ℕ) (x : Slot) : Type 0 where
     pub ticket-low : 1 ≤ t
-    pub its-ticket : what .ticket ≡ t
-    pub one-placing : ps ≡ (number, what .program, what .count) ∷ []
-    pub its-answers : qs ≡ numbered 1 (what .answers)
+    pub its-ticket : x .ticket ≡ t
+    pub one-placing : ps ≡ (s, x .program, x .count) ∷ []
+    pub its-answers : qs ≡ numbered 1 (x .answers)
     pub no-reply : rs ≡ []
 
-  pub record Gone : Type 0 where
-    pub number : ℕ
-    pub what : Slot
-    pub was-given : t ≤ last
+  pub record Gone (s : ℕ) (x : Slot) : Type 0 where
     pub ticket-low : 1 ≤ t
-    pub nowhere : (s : ℕ) → slot s .ticket ≡ t → ⊥
-    pub one-placing : ps ≡ (number, what .program, what .count) ∷ []
-    pub its-answers : qs ≡ numbered 1 (what .answers)
-    pub all-answered : length (what .answers) ≡ what .count
-    pub one-reply : rs ≡ what .program ∷ []
+    pub one-placing : ps ≡ (s, x .program, x .count) ∷ []
+    pub its-answers : qs ≡ numbered 1 (x .answers)
+    pub all-answered : length (x .answers) ≡ x .count
+    pub one-reply : rs ≡ x .program ∷ []
 
+abbrev pub Nowhere : (ℕ → Slot) → ℕ → Type 0
+Nowhere slot t = (s : ℕ) → slot s .ticket ≡ t → ⊥
+
+module _ (last : ℕ) (slot : ℕ → Slot) (t : ℕ) (ps : List (ℕ × ℕ × ℕ)) (qs : List (ℕ × Answer)) (rs : List ℕ) where
   pub data Standing : Type 0 where
-    new : New → Standing
-    held : Held → Standing
-    gone : Gone → Standing
-
--- a ticket that stands at s is held there
-pub record At (x : Slot) (s : ℕ) (ps : List (ℕ × ℕ × ℕ)) (qs : List (ℕ × Answer)) (rs : List ℕ) : Type 0 where
-  pub one-placing : ps ≡ (s, x .program, x .count) ∷ []
-  pub its-answers : qs ≡ numbered 1 (x .answers)
-  pub no-reply : rs ≡ []
+    new : (1 ≤ t → Nowhere slot t) → New t ps qs rs → Standing
+    held : (s : ℕ) (x : Slot) → slot s ≡ x → Held t ps qs rs s x → Standing
+    gone : (s : ℕ) (x : Slot) → t ≤ last → Nowhere slot t → Gone t ps qs rs s x → Standing
 
 module _ (last : ℕ) (slot : ℕ → Slot) (t : ℕ) (ps : List (ℕ × ℕ × ℕ)) (qs : List (ℕ × Answer)) (rs : List ℕ) (s : ℕ) where
   -- a change at s that has nothing to do with t
   pub apart : (last′ : ℕ) (x : Slot) → last ≤ last′ → (1 ≤ t → slot s .ticket ≡ t → ⊥) → (1 ≤ t → x .ticket ≡ t → ⊥)
       → Standing last slot t ps qs rs → Standing last′ (put slot s x) t ps qs rs
-  apart last′ x l f g (new w) =
-      new (record {
-        nowhere = λ k. put-all slot s x (λ i y. y .ticket ≡ t → ⊥) (g k) (λ i n. w .nowhere k i);
-        no-placing = w .no-placing;
-        no-answer = w .no-answer;
-        no-reply = w .no-reply;
-      })
-  apart last′ x l f g (held w) =
-      held (record {
-        number = w .number;
-        what = w .what;
-        there = put-other slot s x (λ e. f (w .ticket-low) (ap (λ i. slot i .ticket) (sym e) ∙ ap (λ y. y .ticket) (w .there) ∙ w .its-ticket)) ∙ w .there;
-        ticket-low = w .ticket-low;
-        its-ticket = w .its-ticket;
-        one-placing = w .one-placing;
-        its-answers = w .its-answers;
-        no-reply = w .no-reply;
-      })
-  apart last′ x l f g (gone w) =
-      gone (record {
-        number = w .number;
-        what = w .what;
-        was-given = omega (arith, w .was-given);
-        ticket-low = w .ticket-low;
-        nowhere = put-all slot s x (λ i y. y .ticket ≡ t → ⊥) (g (w .ticket-low)) (λ i n. w .nowhere i);
-        one-placing = w .one-placing;
-        its-answers = w .its-answers;
-        all-answered = w .all-answered;
-        one-reply = w .one-reply;
-      })
+  apart last′ x l f g (new d w) = new (λ k. put-all slot s x (λ i y. y .ticket ≡ t → ⊥) (g k) (λ i n. d k i)) w
+  apart last′ x l f g (held i y q w) =
+      held i y (put-other slot s x (λ e. f (w .ticket-low) (ap (λ j. slot j .ticket) (sym e) ∙ ap (λ z. z .ticket) q ∙ w .its-ticket)) ∙ q) w
+  apart last′ x l f g (gone i y k d w) =
+      gone i y (omega arith) (put-all slot s x (λ j z. z .ticket ≡ t → ⊥) (g (w .ticket-low)) (λ j n. d j)) w
 
   -- the ticket that a placing at s gives
   pub its-placing : (p n : ℕ) → last + 1 ≡ t → ((i : ℕ) → slot i .ticket ≤ last) → Standing last slot t ps qs rs
       → Standing (last + 1) (put slot s (newSlot p n (last + 1))) t ((s, p, n) ∷ ps) qs rs
   unfolding numbered
-  its-placing p n e b (new w) =
+  its-placing p n e b (new d w) =
       let x = newSlot p n (last + 1) in
-      held (record {
-        number = s;
-        what = x;
-        there = put-same slot s x;
-        ticket-low = omega arith;
-        its-ticket = e;
-        one-placing = rw (w .no-placing);
-        its-answers = w .no-answer;
-        no-reply = w .no-reply;
-      })
-  its-placing p n e b (held w) =
-      let k : slot (w .number) .ticket ≡ t = rw (w .there) (w .its-ticket) in
-      absurd (omega (arith, b (w .number)))
-  its-placing p n e b (gone w) = absurd (omega (arith, w .was-given))
+      held s x (put-same slot s x)
+      (record { ticket-low = omega arith; its-ticket = e; one-placing = rw (w .no-placing); its-answers = w .no-answer; no-reply = w .no-reply })
+  its-placing p n e b (held i y q w) = let k : slot i .ticket ≡ t = rw q (w .its-ticket) in absurd (omega (arith, b i))
+  its-placing p n e b (gone i y k d w) = absurd (omega arith)
 
   module _ (here : slot s .ticket ≡ t) (low : 1 ≤ t) (high : t ≤ last) (distinct : (i : ℕ) → slot i .ticket ≡ t → i ≡ s) where
-    pub held-at : Standing last slot t ps qs rs → At (slot s) s ps qs rs
-    held-at (new w) = absurd (w .nowhere low s here)
-    held-at (held w) =
-        let k : w .number ≡ s = distinct (w .number) (rw (w .there) (w .its-ticket)) in
-        let y : w .what ≡ slot s = cc in
-        record { one-placing = rw (← k, w .there) (w .one-placing); its-answers = rw (← y) (w .its-answers); no-reply = w .no-reply }
-    held-at (gone w) = absurd (w .nowhere s here)
+    -- a ticket that stands at s is held there
+    pub held-at : Standing last slot t ps qs rs → Held t ps qs rs s (slot s)
+    held-at (new d w) = absurd (d low s here)
+    held-at (held i y q w) = let k : i ≡ s = distinct i (rw q (w .its-ticket)) in rw (← k, q) w
+    held-at (gone i y k d w) = absurd (d s here)
 
     -- an answer to the session at s
     pub its-answer : (a : Answer) → Standing last slot t ps qs rs
         → Standing last (put slot s (withAnswer (slot s) a)) t ps (qs ++ ((lowest (slot s), a) ∷ [])) rs
     its-answer a w =
         let h = held-at w in
-        held (record {
-          number = s;
-          what = withAnswer (slot s) a;
-          there = put-same slot s (withAnswer (slot s) a);
+        held s (withAnswer (slot s) a) (put-same slot s (withAnswer (slot s) a))
+        (record {
           ticket-low = low;
           its-ticket = here;
           one-placing = h .one-placing;
@@ -136,14 +88,5 @@ module _ (last : ℕ) (slot : ℕ → Slot) (t : ℕ) (ps : List (ℕ × ℕ × 
         → Standing last (put slot s openSlot) t ps qs (slot s .program ∷ rs)
     its-collection all w =
         let h = held-at w in
-        gone (record {
-          number = s;
-          what = slot s;
-          was-given = high;
-          ticket-low = low;
-          nowhere = put-all slot s openSlot (λ i y. y .ticket ≡ t → ⊥) (λ e. omega arith) (λ i n e. n (distinct i e));
-          one-placing = h .one-placing;
-          its-answers = h .its-answers;
-          all-answered = all;
-          one-reply = rw (h .no-reply);
-        })
+        gone s (slot s) high (put-all slot s openSlot (λ i y. y .ticket ≡ t → ⊥) (λ e. omega arith) (λ i n e. n (distinct i e)))
+        (record { ticket-low = low; one-placing = h .one-placing; its-answers = h .its-answers; all-answered = all; one-reply = rw (h .no-reply) })

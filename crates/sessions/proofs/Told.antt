@@ -11,10 +11,10 @@ use Rattle.sessions.specs.History.{Call, Event, made, placed, tookUp, an
 use Rattle.sessions.specs.Runs.{refusedWith}
 use Rattle.sessions.specs.Table.{State, lowest, reply}
 use Rattle.sessions.specs.declared.Answer.{Answer}
-use Rattle.sessions.proofs.Did.{Places, Answers, Collects, Idle, no-make, other-make, no-place, no-take-up, again, no-answer, no-collect, Did, nothing, makes, places, takes, answers, collects, stepTable, did}
+use Rattle.sessions.proofs.Did.{Places, Answers, Collects, Idle, not-made, no-place, no-take-up, again, no-answer, no-collect, Did, nothing, makes, places, takes, answers, collects, stepTable, did}
 
 -- the command c of ticket t, at s, is now in hand
-pub record Given (σ σ′ : State) (s t c : ℕ) : Type 0 where
+pub record NowInHand (σ σ′ : State) (s t c : ℕ) : Type 0 where
   pub in-hand : σ′ .hand ≡ at s
   pub same-slots : σ′ .slot ≡ σ .slot
   pub ticket : σ .slot s .ticket ≡ t
@@ -34,7 +34,7 @@ abbrev pub Told : State → Event → State → Type 0
 Told σ (made m max r) σ′ = Unit {0}
 Told σ (placed p n (done r)) σ′ = Places σ (r .0) p n × (r .1 ≡ σ .last + 1)
 Told σ (placed p n (refused k i)) σ′ = σ′ ≡ σ
-Told σ (tookUp (done r)) σ′ = Given σ σ′ (r .0) (r .1) (r .2)
+Told σ (tookUp (done r)) σ′ = NowInHand σ σ′ (r .0) (r .1) (r .2)
 Told σ (tookUp (refused k i)) σ′ = σ′ ≡ σ
 Told σ (answered t c a (done r)) σ′ = Accepted σ t c a
 Told σ (answered t c a (refused k i)) σ′ = σ′ ≡ σ
@@ -42,8 +42,7 @@ Told σ (collected p t out (done n) exit) σ′ = Collection σ p t out n exit
 Told σ (collected p t out (refused k i) exit) σ′ = σ′ ≡ σ
 
 told-idle : {σ : State} {e : Event} → Idle σ e → Told σ e σ
-told-idle (no-make max k i) = tt
-told-idle (other-make m max r) = tt
+told-idle (not-made m max r q) = tt
 told-idle (no-place p n k i) = refl
 told-idle (no-take-up k i) = refl
 told-idle (again s q) = record { in-hand = q; same-slots = refl; ticket = refl; command = refl }

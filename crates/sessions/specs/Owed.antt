@@ -1,4 +1,4 @@
--- What a history owes to who collects. The claims of demand 3 are about these words. Assumes nothing.
+-- What a history owes to who collects. The claims of demand 3 are about these words.
 use Prim.Native.Nat.{ℕ, _≤_}
 use mathlib.Core.Path.{_≡_}
 use mathlib.Core.Bool.{_&&_, cond}

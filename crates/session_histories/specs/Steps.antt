@@ -1,4 +1,4 @@
--- The calls of the session table on lent bytes, one after the other: a run over bytes.
+-- What each call of the session table answers on lent bytes, and leaves: the step of a run over bytes.
 use Prim.Native.Nat.{ℕ}
 use mathlib.Core.List.{List}
 use lib.ListN.{length}
