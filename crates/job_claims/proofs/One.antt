@@ -7,7 +7,7 @@ use native.Mathlib.Omega.{arith}
 use Rattle.counts.specs.Refusals.{noToken, unexpected, notReal, refusal}
 use Rattle.counts.specs.Result.{Result}
 use Rattle.counts.specs.Result.Result.{refused, done as whole}
-use Rattle.grammar.specs.Grammar.{Class, Point, next, step, walk, isPoint, shape}
+use Rattle.grammar.specs.Grammar.{Point, step, walk, isPoint, shape}
 use Rattle.grammar.specs.Grammar.Point.{statement, done, dead}
 use Rattle.grammar.specs.Productions.{Placed, classes}
 use Rattle.grammar.specs.Reading.{Last}
@@ -23,7 +23,7 @@ use Rattle.item.specs.Items.{itemAt}
 use Rattle.item.specs.Tokens.Tokens.{at-end, no-token, then as and-then}
 use Rattle.statement.specs.declared.StatementRead.{StatementRead}
 use Rattle.statement.specs.declared.StatementRead.the-variants.{Is, Refused}
-use Rattle.statement.specs.Statement.{Held, adds, readFrom}
+use Rattle.statement.specs.Statement.{Held, readFrom}
 use Rattle.statement.proofs.Along.{is-whole, after, on-token, on-end, on-none}
 use Rattle.statement.proofs.Bridge.{Holds, by-tokens}
 use Rattle.item.specs.Tokens.After.{here, then}
@@ -106,7 +106,7 @@ module _ (s : List ℕ) where
   along {i = i} (then {t = t} {a = a} e r) q h l =
       let d : isPoint q done ≡ false = elsewhere q done (t .class ∷ classes a) (stays (classes a)) l in
       let n : isPoint (step q (t .class)) dead ≡ false = elsewhere (step q (t .class)) dead (classes a) (stays (classes a)) l in
-      let k = along r (step q (t .class)) (after q (t .class) (next q) (adds q) (itemAt 0 s i) h) l in
+      let k = along r (step q (t .class)) (after q (t .class) (itemAt 0 s i) h) l in
       (k .0, ap endOf (on-token s q h d i t e) ∙ rw n (k .1))
 
   -- the tokens of a file, cut in two

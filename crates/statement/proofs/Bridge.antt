@@ -5,7 +5,7 @@ use mathlib.Core.Bool.{Bool, true, false, cond}
 use mathlib.Core.List.{List, [], _∷_}
 use Rattle.counts.specs.Refusals.{noToken, unexpected, notReal, refusal}
 use Rattle.counts.specs.Result.Result.{refused}
-use Rattle.grammar.specs.Grammar.{Point, next, step, isPoint, shape}
+use Rattle.grammar.specs.Grammar.{Point, step, isPoint, shape}
 use Rattle.grammar.specs.Grammar.Point.{done, dead}
 use Rattle.grammar.specs.Productions.{Placed}
 use Rattle.grammar.specs.Reading.{State, Last, moves, atEnd, close}
@@ -20,7 +20,7 @@ use Rattle.item.specs.Items.{itemAt}
 use Rattle.statement.specs.declared.Statement.{Statement}
 use Rattle.statement.specs.declared.StatementRead.{StatementRead}
 use Rattle.statement.specs.declared.StatementRead.the-variants.{Is, Refused}
-use Rattle.statement.specs.Statement.{Held, adds, readFrom}
+use Rattle.statement.specs.Statement.{Held, readFrom}
 use Rattle.statement.proofs.Along.{is-whole, after, on-token, on-end, on-none}
 
 -- What holds of every reading from a point q on, of the tokens ts from the place i on, ended by z: it holds of a whole statement, where no token
@@ -58,7 +58,7 @@ module _ (s : List ℕ) (R : Point → ℕ → List Placed → Last → Statemen
   by-tokens {i} {z = z} (then {t = t} {ts = ts} n r) q h =
       unless-done (then n r) q h
       (λ o. subst (R q i (t ∷ ts) z) (sym (on-token s q h o i t n))
-      (at-token q o i t ts z n _ (by-tokens r (step q (t .class)) (after q (t .class) (next q) (adds q) (itemAt 0 s i) h)) _ _ refl refl))
+      (at-token q o i t ts z n _ (by-tokens r (step q (t .class)) (after q (t .class) (itemAt 0 s i) h)) _ _ refl refl))
 
 -- What a statement's answer says of the tokens ts from there on, ended by z: where it is whole, the reader goes on with the tokens
 -- after it, and where it is refused, that is the file's answer.
