@@ -22,7 +22,7 @@ use Rattle.item.proofs.Shows.Shows.{a-token, the-end, no-token}
 use Rattle.statement.specs.declared.Statement.{Statement}
 use Rattle.statement.specs.declared.StatementRead.{StatementRead}
 use Rattle.statement.specs.declared.StatementRead.the-variants.{Is, Refused}
-use Rattle.statement.specs.Statement.{no, unexpectedAt, otherwise, Begun, Held, Adds, adds, pick, onItem, orWhole, readWithin, readFrom, statementOf}
+use Rattle.statement.specs.Statement.{refuse, unexpectedAt, otherwise, Begun, Held, Adds, adds, pick, onItem, orWhole, readWithin, readFrom, statementOf}
 
 -- ---- 8 tokens are enough
 
@@ -132,16 +132,16 @@ at-date a true x y = rw (and-false (not a))
 at-date a false x y = rw (and-false (not a))
 
 refuses : (q : Point) (t : Item) (c : Class) → t .class ≡ classNo c → isPoint (step q c) dead ≡ true
-    → otherwise q t ≡ cond (isPoint (step q (shape c)) dead) (no unexpected t) (no notReal t)
+    → otherwise q t ≡ cond (isPoint (step q (shape c)) dead) (refuse unexpected t) (refuse notReal t)
 refuses q t c ec d = rw (ec, ne-eqb (classNo c) noneNo (λ z. omega (arith, class-below c))) (go (isClass c unrealTime) (isClass c unrealDate) refl refl)
   where
     go : (x y : Bool) → isClass c unrealTime ≡ x → isClass c unrealDate ≡ y
-        → cond (not (isPoint (step q time) dead) && x) (no notReal t) (cond (not (isPoint (step q date) dead) && y) (no notReal t) (no unexpected t))
-        ≡ cond (isPoint (step q (cond x time (cond y date c))) dead) (no unexpected t) (no notReal t)
+        → cond (not (isPoint (step q time) dead) && x) (refuse notReal t) (cond (not (isPoint (step q date) dead) && y) (refuse notReal t) (refuse unexpected t))
+        ≡ cond (isPoint (step q (cond x time (cond y date c))) dead) (refuse unexpected t) (refuse notReal t)
     go true y e f =
         let z : y ≡ false = sym f ∙ ap (λ (b : Class). isClass b unrealDate) (is-class c unrealTime e) in
-        rw z (at-time (isPoint (step q time) dead) (isPoint (step q date) dead) (no notReal t) (no unexpected t))
-    go false true e f = at-date (isPoint (step q time) dead) (isPoint (step q date) dead) (no notReal t) (no unexpected t)
+        rw z (at-time (isPoint (step q time) dead) (isPoint (step q date) dead) (refuse notReal t) (refuse unexpected t))
+    go false true e f = at-date (isPoint (step q time) dead) (isPoint (step q date) dead) (refuse notReal t) (refuse unexpected t)
     go false false e f = rw (d, and-false (not (isPoint (step q time) dead)), and-false (not (isPoint (step q date) dead)))
 
 -- a number that no class has
