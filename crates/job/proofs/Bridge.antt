@@ -5,7 +5,7 @@ use mathlib.Core.Bool.{Bool, true, false, cond}
 use mathlib.Core.List.{List, [], _∷_, _++_}
 use native.Mathlib.Omega.{arith}
 use borrow.Author.Tests.{lt-ltb, le-ltb, eq-eqb, ne-eqb}
-use lib.Dec.{eqb, ltb}
+use lib.Dec.{eqb}
 use lib.ListN.{length, length-append}
 use Rattle.counts.specs.Limits.{statements}
 use Rattle.counts.specs.Refusals.{noToken, unexpected, tooManyStatements, refusal}
@@ -32,7 +32,7 @@ use Rattle.statement.proofs.Along.{any-kind}
 use Rattle.statement.proofs.Bridge.{Reads, rest-reads}
 use Rattle.job.specs.Loop.{stop, stepRead, stepInto, stepOf, onStep, jobLoop}
 use Rattle.job.specs.declared.Step.{Step}
-use Rattle.job.specs.declared.Step.the-variants.{Over, Stop, On}
+use Rattle.job.specs.declared.Step.the-variants.{Over, Stop}
 
 -- at the start only JOB may stand, and later any statement but JOB: the first where it is so, else the second
 abbrev byJob : {A : Type 0} → List ℕ → Bool → A → A → A

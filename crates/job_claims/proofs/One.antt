@@ -7,7 +7,7 @@ use native.Mathlib.Omega.{arith}
 use Rattle.counts.specs.Refusals.{noToken, unexpected, notReal, refusal}
 use Rattle.counts.specs.Result.{Result}
 use Rattle.counts.specs.Result.Result.{refused, done as whole}
-use Rattle.grammar.specs.Grammar.{Class, Point, next, step, walk, isPoint, shape}
+use Rattle.grammar.specs.Grammar.{Point, step, walk, isPoint, shape}
 use Rattle.grammar.specs.Grammar.Point.{statement, done, dead}
 use Rattle.grammar.specs.Productions.{Placed, classes}
 use Rattle.grammar.specs.Reading.{Last}
@@ -23,8 +23,9 @@ use Rattle.item.specs.Items.{itemAt}
 use Rattle.item.specs.Tokens.Tokens.{at-end, no-token, then as and-then}
 use Rattle.statement.specs.declared.StatementRead.{StatementRead}
 use Rattle.statement.specs.declared.StatementRead.the-variants.{Is, Refused}
-use Rattle.statement.specs.Statement.{Held, adds, readFrom}
+use Rattle.statement.specs.Statement.{Held, readFrom}
 use Rattle.statement.proofs.Along.{is-whole, after, on-token, on-end, on-none}
+use Rattle.statement.proofs.Bridge.{Holds, by-tokens}
 use Rattle.item.specs.Tokens.After.{here, then}
 use Rattle.job_claims.specs.Rows.{WholeOne, Opens, OneThree, OneFourEnd, OneFourToken, OneFive}
 
@@ -105,7 +106,7 @@ module _ (s : List ℕ) where
   along {i = i} (then {t = t} {a = a} e r) q h l =
       let d : isPoint q done ≡ false = elsewhere q done (t .class ∷ classes a) (stays (classes a)) l in
       let n : isPoint (step q (t .class)) dead ≡ false = elsewhere (step q (t .class)) dead (classes a) (stays (classes a)) l in
-      let k = along r (step q (t .class)) (after q (t .class) (next q) (adds q) (itemAt 0 s i) h) l in
+      let k = along r (step q (t .class)) (after q (t .class) (itemAt 0 s i) h) l in
       (k .0, ap endOf (on-token s q h d i t e) ∙ rw n (k .1))
 
   -- the tokens of a file, cut in two
@@ -184,68 +185,45 @@ module _ (s : List ℕ) where
     says-one x (four-token {p = p} r) = four-is p r
     says-one x (five {p = p} r) = five-is p r
 
-  -- every reading has its row: along the tokens ts after the tokens a
+  -- every reading has its row
   module _ (at : ℕ) where
-    here-stands : (a : List Placed) (t : Placed) (ts : List Placed) → Stands (a ++ (t ∷ ts)) (t .place) a t
-    here-stands a t ts = record { after = ts; parts = refl; place = refl }
-
-    one-more : (a : List Placed) (t : Placed) (ts : List Placed) → (a ++ (t ∷ [])) ++ ts ≡ a ++ (t ∷ ts)
-    one-more a t ts = append-assoc a (t ∷ []) ts
-
-    -- a token, by what it leads to
-    module _ (a : List Placed) (t : Placed) (us : List Placed) (z : Last) (l : isPoint (point a) dead ≡ false) (n : isPoint (point a) done ≡ false)
-        (later : StatementRead) where
-      token : (isPoint (step (point a) (t .class)) dead ≡ false → Judged s at (a ++ (t ∷ us)) z (endOf later)) → (x y : Bool)
-          → isPoint (step (point a) (t .class)) dead ≡ x → isPoint (step (point a) (shape (t .class))) dead ≡ y
-          → Judged s at (a ++ (t ∷ us)) z (endOf (cond x (cond y (Refused (refusal unexpected (t .place))) (Refused (refusal notReal (t .place)))) later))
-      token goes false y p q = goes p
-      token goes true true p q =
-          four-token (
-            a,
-            t,
-            here-stands a t us,
-            opens a l,
-            not-whole a n,
-            not-opens (a ++ (t ∷ [])) (ap (λ (r : Point). isPoint r dead) (point-append a t) ∙ p),
-            not-opens (a ++ (real t ∷ [])) (ap (λ (r : Point). isPoint r dead) (point-append a (real t)) ∙ q),
-          )
-      token goes true false p q =
-          five (
-            a,
-            t,
-            here-stands a t us,
-            opens (a ++ (real t ∷ [])) (ap (λ (r : Point). isPoint r dead) (point-append a (real t)) ∙ q),
-            not-opens (a ++ (t ∷ [])) (ap (λ (r : Point). isPoint r dead) (point-append a t) ∙ p),
-          )
-
-    -- at `done` the statement is whole
-    unless-done : (i : ℕ) (a ts : List Placed) (z : Last) (h : Held (point a)) → After s at a i
-        → (isPoint (point a) done ≡ false → Judged s at ts z (ends (point a) h i)) → Judged s at ts z (ends (point a) h i)
-    unless-done i a ts z h f other = go (isPoint (point a) done) refl
+    -- a token that may not stand after a
+    barred : (a : List Placed) (t : Placed) (us : List Placed) (z : Last) → isPoint (point a) dead ≡ false → isPoint (point a) done ≡ false
+        → isPoint (step (point a) (t .class)) dead ≡ true → (y : Bool) → isPoint (step (point a) (shape (t .class))) dead ≡ y
+        → Judged s at (a ++ (t ∷ us)) z (refused (cond y unexpected notReal) (t .place))
+    barred a t us z l n p y q = go y q
       where
-        go : (b : Bool) → isPoint (point a) done ≡ b → Judged s at ts z (ends (point a) h i)
-        go true e =
-            let p : point a ≡ done = is-point (point a) done e in
-            subst (Judged s at ts z) (sym (ends-whole (point a) h i p)) (read (a, f, walked-any a p))
-        go false e = other e
+        here-stands : Stands (a ++ (t ∷ us)) (t .place) a t
+        here-stands = record { after = us; parts = refl; place = refl }
 
-    judge : {i : ℕ} {ts : List Placed} {z : Last} → Tokens s i ts z → (a : List Placed) → After s at a i → (h : Held (point a)) → isPoint (point a) dead ≡ false
-        → Judged s at (a ++ ts) z (ends (point a) h i)
-    judge {i} (at-end {p = p} x) a f h l =
-        unless-done i a (a ++ []) (end p) h f (λ n. rw (on-end s (point a) h n i p x, append-nil a) (four-end (opens a l, not-whole a n, refl)))
-    judge {i} (no-token {p = p} x) a f h l =
-        unless-done i a (a ++ []) (broken p) h f (λ n. rw (on-none s (point a) h n i p x, append-nil a) (three (opens a l, not-whole a n, refl)))
-    judge {i} {z = z} (and-then {t = t} {ts = us} x r) a f h l =
-        let k : Held (step (point a) (t .class)) = after (point a) (t .class) (next (point a)) (adds (point a)) (itemAt 0 s i) h in
-        let later : (y : Held (point (a ++ (t ∷ [])))) → isPoint (point (a ++ (t ∷ []))) dead ≡ false
-        → Judged s at (a ++ (t ∷ us)) z (ends (point (a ++ (t ∷ []))) y (t .end)) =
-        λ y m. rw (one-more a t us) at (judge r (a ++ (t ∷ [])) (after-more f x) y m) in
-        let goes : (y : Held (step (point a) (t .class))) → isPoint (step (point a) (t .class)) dead ≡ false
-        → Judged s at (a ++ (t ∷ us)) z (ends (step (point a) (t .class)) y (t .end)) =
-        subst (λ (q : Point). (y : Held q) → isPoint q dead ≡ false → Judged s at (a ++ (t ∷ us)) z (ends q y (t .end))) (point-append a t) later in
-        unless-done i a (a ++ (t ∷ us)) z h f
-        (λ n. subst (λ (v : StatementRead). Judged s at (a ++ (t ∷ us)) z (endOf v)) (sym (on-token s (point a) h n i t x))
-        (token a t us z l n _ (goes k) _ _ refl refl))
+        not-so : ¬ Opens (a ++ (t ∷ []))
+        not-so = not-opens (a ++ (t ∷ [])) (ap (λ (r : Point). isPoint r dead) (point-append a t) ∙ p)
+
+        with-real : {b : Bool} → isPoint (step (point a) (shape (t .class))) dead ≡ b → isPoint (point (a ++ (real t ∷ []))) dead ≡ b
+        with-real e = ap (λ (r : Point). isPoint r dead) (point-append a (real t)) ∙ e
+
+        go : (y : Bool) → isPoint (step (point a) (shape (t .class))) dead ≡ y → Judged s at (a ++ (t ∷ us)) z (refused (cond y unexpected notReal) (t .place))
+        go true e = four-token (a, t, here-stands, opens a l, not-whole a n, not-so, not-opens (a ++ (real t ∷ [])) (with-real e))
+        go false e = five (a, t, here-stands, opens (a ++ (real t ∷ [])) (with-real e), not-so)
+
+    -- of the tokens ts after the tokens a, which lead to q
+    abbrev Row : Point → ℕ → List Placed → Last → StatementRead → Type 0
+    Row q i ts z v = (a : List Placed) → point a ≡ q → After s at a i → isPoint (point a) dead ≡ false → Judged s at (a ++ ts) z (endOf v)
+
+    still : {q : Point} (a : List Placed) → point a ≡ q → isPoint q done ≡ false → isPoint (point a) done ≡ false
+    still a e o = ap (λ (p : Point). isPoint p done) e ∙ o
+
+    rows : Holds s Row
+    rows =
+        record {
+          whole = λ i ts z d x a e f l. read (a, f, walked-any a e);
+          over = λ q o i p a e f l. rw (append-nil a) (four-end (opens a l, not-whole a (still a e o), refl));
+          lost = λ q o i p a e f l. rw (append-nil a) (three (opens a l, not-whole a (still a e o), refl));
+          barred = λ q o i t us z d y g a e f l. barred a t us z l (still a e o) (rw e d) y (rw e g);
+          along = λ q o i t us z n d v r a e f l.
+              let m : point (a ++ (t ∷ [])) ≡ step q (t .class) = point-append a t ∙ ap (λ (p : Point). step p (t .class)) e in
+              rw (append-assoc a (t ∷ []) us) at (r (a ++ (t ∷ [])) m (after-more f n) (ap (λ (p : Point). isPoint p dead) m ∙ d));
+        }
 
     pub one-says : {ts : List Placed} {z : Last} → Tokens s at ts z → Judged s at ts z (endOf (readFrom 0 s statement tt at))
-    one-says d = judge d [] here tt refl
+    one-says d = by-tokens s Row rows d statement tt [] refl here refl

@@ -1,9 +1,9 @@
 -- What the productions read is read along the grammar's table.
 use Prim.Native.Nat.{ℕ}
-use mathlib.Core.Path.{_≡_, refl, sym, _∙_, ap, ap₂}
+use mathlib.Core.Path.{_≡_, refl, _∙_, ap, ap₂}
 use mathlib.Core.Bool.{Bool, true, false}
 use mathlib.Core.List.{List, [], _∷_, _++_}
-use Rattle.grammar.specs.Grammar.{Class, Point, next, step, isPoint}
+use Rattle.grammar.specs.Grammar.{Class, Point, step, isPoint}
 use Rattle.grammar.specs.Grammar.Class.{JOB, RESPONSE, UPLOAD, DOWNLOAD, GETINFO, ABORT, REPORT, EVENT, START, ACTIVE, IMMEDIATE, name, TIME≥, number, date, unrealDate, time, string, operator, semicolon}
 use Rattle.grammar.specs.Grammar.Point.{statement, jobName, jobResponse, jobFile, moveFile, moveSource, moveStart, startKind, startTime, startDate, startOperator, startValue, infoFile, abortKind, abortName, ending, done, dead}
 use Rattle.grammar.specs.Statement as read
@@ -35,7 +35,7 @@ use Rattle.statement.specs.declared.Statement.{Statement}
 use Rattle.statement.specs.declared.Statement.the-variants.{Job, Upload, Download, GetInfo, Abort}
 use Rattle.statement.specs.declared.Transfer.{Transfer}
 use Rattle.statement.specs.declared.StatementRead.the-variants.{Is}
-use Rattle.statement.specs.Statement.{partOf, condition, transferred, transfer, Held, adds, readFrom, statementOf}
+use Rattle.statement.specs.Statement.{partOf, condition, transferred, transfer, Held, readFrom, statementOf}
 use Rattle.statement.proofs.Along.{is-whole, after, on-token, any-kind}
 use Rattle.meaning.specs.Paper.{paperName, paperSource, paperValue, paperStart, paperStatement}
 
@@ -45,7 +45,7 @@ name-is h = ap₂ (λ (p e : ℕ). record { place = p; end = e }) (h .place) (h 
 module _ (s : List ℕ) where
   -- along an edge: the token u stands next from i on, and is of the class c
   along : (q : Point) (c : Class) (i : ℕ) {u : Placed} (h : Held q) → isPoint (step q c) dead ≡ false → nextItem s i ≡ item u → production.Is c u
-      → readFrom 0 s q h i ≡ readFrom 0 s (step q c) (after q c (next q) (adds q) (itemAt 0 s i) h) (u .end)
+      → readFrom 0 s q h i ≡ readFrom 0 s (step q c) (after q c (itemAt 0 s i) h) (u .end)
   along q c i {u} h l e k = rw (k, l) at (on-token s q h (elsewhere q done (c ∷ []) refl l) i u e)
 
   closes : (x : Statement) (i : ℕ) {u : Placed} → nextItem s i ≡ item u → production.Is semicolon u → readFrom 0 s ending x i ≡ Is x (u .end)

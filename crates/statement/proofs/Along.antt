@@ -22,7 +22,7 @@ use Rattle.item.proofs.Shows.Shows.{a-token, the-end, no-token}
 use Rattle.statement.specs.declared.Statement.{Statement}
 use Rattle.statement.specs.declared.StatementRead.{StatementRead}
 use Rattle.statement.specs.declared.StatementRead.the-variants.{Is, Refused}
-use Rattle.statement.specs.Statement.{no, unexpectedAt, otherwise, Begun, Held, Adds, adds, pick, onItem, orWhole, readWithin, readFrom, statementOf}
+use Rattle.statement.specs.Statement.{refuse, unexpectedAt, otherwise, Begun, Held, Adds, adds, pick, onItem, orWhole, readWithin, readFrom, statementOf}
 
 -- ---- 8 tokens are enough
 
@@ -88,9 +88,12 @@ abbrev either : (b : Bool) (p r : Point) → Held p → Held r → Held (cond b 
 either true p r x y = x
 either false p r x y = y
 
-abbrev pub after : (q : Point) (c : Class) (es : List Edge) → Each (Adds q) es → Item → Held q → Held (look c es)
-after q c [] ws t h = tt
-after q c (e ∷ es) ws t h = either (isClass c (e .class)) (e .to) (look c es) (ws .0 t h) (after q c es (ws .1) t h)
+abbrev afterEdge : (q : Point) (c : Class) (es : List Edge) → Each (Adds q) es → Item → Held q → Held (look c es)
+afterEdge q c [] ws t h = tt
+afterEdge q c (e ∷ es) ws t h = either (isClass c (e .class)) (e .to) (look c es) (ws .0 t h) (afterEdge q c es (ws .1) t h)
+
+abbrev pub after : (q : Point) (c : Class) → Item → Held q → Held (step q c)
+after q c t h = afterEdge q c (next q) (adds q) t h
 
 -- no edge leads to `dead`
 abbrev alive : List Edge → Bool
@@ -102,16 +105,16 @@ is-not false e = refl
 
 module _ (q : Point) (t : Item) (h : Held q) (k : (p : Point) → Held p → StatementRead) (r : StatementRead) where
   pick-edge : (c : Class) → t .class ≡ classNo c → (es : List Edge) (ws : Each (Adds q) es) → alive es ≡ true
-      → pick q es ws t h k r ≡ cond (isPoint (look c es) dead) r (k (look c es) (after q c es ws t h))
+      → pick q es ws t h k r ≡ cond (isPoint (look c es) dead) r (k (look c es) (afterEdge q c es ws t h))
   pick-edge c ec [] ws l = refl
   pick-edge c ec (e ∷ es) ws l =
       ap (λ (n : ℕ). cond (eqb n (classNo (e .class))) (k (e .to) (ws .0 t h)) (pick q es (ws .1) t h k r)) ec
       ∙ go (pick-edge c ec es (ws .1) (and-right (not (isPoint (e .to) dead)) _ l)) (isClass c (e .class))
     where
-      go : pick q es (ws .1) t h k r ≡ cond (isPoint (look c es) dead) r (k (look c es) (after q c es (ws .1) t h)) → (b : Bool)
+      go : pick q es (ws .1) t h k r ≡ cond (isPoint (look c es) dead) r (k (look c es) (afterEdge q c es (ws .1) t h)) → (b : Bool)
           → cond b (k (e .to) (ws .0 t h)) (pick q es (ws .1) t h k r)
           ≡ cond (isPoint (cond b (e .to) (look c es)) dead) r
-          (k (cond b (e .to) (look c es)) (either b (e .to) (look c es) (ws .0 t h) (after q c es (ws .1) t h)))
+          (k (cond b (e .to) (look c es)) (either b (e .to) (look c es) (ws .0 t h) (afterEdge q c es (ws .1) t h)))
       go later true = rw (is-not (isPoint (e .to) dead) (and-left _ _ l))
       go later false = later
 
@@ -129,21 +132,27 @@ at-date a true x y = rw (and-false (not a))
 at-date a false x y = rw (and-false (not a))
 
 refuses : (q : Point) (t : Item) (c : Class) → t .class ≡ classNo c → isPoint (step q c) dead ≡ true
-    → otherwise q t ≡ cond (isPoint (step q (shape c)) dead) (no unexpected t) (no notReal t)
+    → otherwise q t ≡ cond (isPoint (step q (shape c)) dead) (refuse unexpected t) (refuse notReal t)
 refuses q t c ec d = rw (ec, ne-eqb (classNo c) noneNo (λ z. omega (arith, class-below c))) (go (isClass c unrealTime) (isClass c unrealDate) refl refl)
   where
     go : (x y : Bool) → isClass c unrealTime ≡ x → isClass c unrealDate ≡ y
-        → cond (not (isPoint (step q time) dead) && x) (no notReal t) (cond (not (isPoint (step q date) dead) && y) (no notReal t) (no unexpected t))
-        ≡ cond (isPoint (step q (cond x time (cond y date c))) dead) (no unexpected t) (no notReal t)
+        → cond (not (isPoint (step q time) dead) && x) (refuse notReal t) (cond (not (isPoint (step q date) dead) && y) (refuse notReal t) (refuse unexpected t))
+        ≡ cond (isPoint (step q (cond x time (cond y date c))) dead) (refuse unexpected t) (refuse notReal t)
     go true y e f =
         let z : y ≡ false = sym f ∙ ap (λ (b : Class). isClass b unrealDate) (is-class c unrealTime e) in
-        rw z (at-time (isPoint (step q time) dead) (isPoint (step q date) dead) (no notReal t) (no unexpected t))
-    go false true e f = at-date (isPoint (step q time) dead) (isPoint (step q date) dead) (no notReal t) (no unexpected t)
+        rw z (at-time (isPoint (step q time) dead) (isPoint (step q date) dead) (refuse notReal t) (refuse unexpected t))
+    go false true e f = at-date (isPoint (step q time) dead) (isPoint (step q date) dead) (refuse notReal t) (refuse unexpected t)
     go false false e f = rw (d, and-false (not (isPoint (step q time) dead)), and-false (not (isPoint (step q date) dead)))
 
 -- a number that no class has
 outside : (t : Item) (n : ℕ) → t .class ≡ n → 22 ≤ n → (c : Class) → eqb (t .class) (classNo c) ≡ false
 outside t n e l c = ne-eqb (t .class) (classNo c) (λ x. omega (arith, class-below c))
+
+-- the token u at the point q, where r is read after it
+abbrev pub onPlaced : Point → Placed → StatementRead → StatementRead
+onPlaced q u r =
+    cond (isPoint (step q (u .class)) dead)
+    (cond (isPoint (step q (shape (u .class))) dead) (Refused (refusal unexpected (u .place))) (Refused (refusal notReal (u .place)))) r
 
 module _ (s : List ℕ) (q : Point) (h : Held q) (o : isPoint q done ≡ false) (i : ℕ) where
   abbrev rest : Item → (p : Point) → Held p → StatementRead
@@ -153,28 +162,21 @@ module _ (s : List ℕ) (q : Point) (h : Held q) (o : isPoint q done ≡ false) 
   opened = from 0 s q h i ∙ not-whole (Begun q) (isPoint q done) h i _ o
 
   -- a token goes along its edge; it is refused where there is none
-  pub on-token : (u : Placed) → nextItem s i ≡ item u
-      → readFrom 0 s q h i
-      ≡ cond (isPoint (step q (u .class)) dead)
-      (cond (isPoint (step q (shape (u .class))) dead) (Refused (refusal unexpected (u .place))) (Refused (refusal notReal (u .place))))
-      (readFrom 0 s (step q (u .class)) (after q (u .class) (next q) (adds q) (itemAt 0 s i) h) (u .end))
-  on-token u e = opened ∙ shown (itemAt 0 s i) (rw e at (shows s i))
+  shown : (t : Item) (u : Placed) → Shows t (item u) → onItem q h t (rest t) ≡ onPlaced q u (readFrom 0 s (step q (u .class)) (after q (u .class) t h) (u .end))
+  shown t u (a-token ec ep en) =
+      pick-edge q t h (rest t) (otherwise q t) (u .class) ec (next q) (adds q) (at-point (λ (p : Point). alive (next p)) refl q)
+      ∙ go (isPoint (step q (u .class)) dead) refl
     where
-      shown : (t : Item) → Shows t (item u)
-          → onItem q h t (rest t)
-          ≡ cond (isPoint (step q (u .class)) dead)
-          (cond (isPoint (step q (shape (u .class))) dead) (Refused (refusal unexpected (u .place))) (Refused (refusal notReal (u .place))))
-          (readFrom 0 s (step q (u .class)) (after q (u .class) (next q) (adds q) t h) (u .end))
-      shown t (a-token ec ep en) =
-          pick-edge q t h (rest t) (otherwise q t) (u .class) ec (next q) (adds q) (at-point (λ (p : Point). alive (next p)) refl q)
-          ∙ go (isPoint (step q (u .class)) dead) refl
-        where
-          go : (b : Bool) → isPoint (step q (u .class)) dead ≡ b
-              → cond b (otherwise q t) (rest t (step q (u .class)) (after q (u .class) (next q) (adds q) t h))
-              ≡ cond b (cond (isPoint (step q (shape (u .class))) dead) (Refused (refusal unexpected (u .place))) (Refused (refusal notReal (u .place))))
-              (readFrom 0 s (step q (u .class)) (after q (u .class) (next q) (adds q) t h) (u .end))
-          go true d = refuses q t (u .class) ec d ∙ rw ep
-          go false d = rw en
+      go : (b : Bool) → isPoint (step q (u .class)) dead ≡ b
+          → cond b (otherwise q t) (rest t (step q (u .class)) (after q (u .class) t h))
+          ≡ cond b (cond (isPoint (step q (shape (u .class))) dead) (Refused (refusal unexpected (u .place))) (Refused (refusal notReal (u .place))))
+          (readFrom 0 s (step q (u .class)) (after q (u .class) t h) (u .end))
+      go true d = refuses q t (u .class) ec d ∙ rw ep
+      go false d = rw en
+
+  pub on-token : (u : Placed) → nextItem s i ≡ item u
+      → readFrom 0 s q h i ≡ onPlaced q u (readFrom 0 s (step q (u .class)) (after q (u .class) (itemAt 0 s i) h) (u .end))
+  on-token u e = opened ∙ shown (itemAt 0 s i) u (rw e at (shows s i))
 
   no-edge : ((c : Class) → eqb (itemAt 0 s i .class) (classNo c) ≡ false) → readFrom 0 s q h i ≡ unexpectedAt (itemAt 0 s i)
   no-edge f =

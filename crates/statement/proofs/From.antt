@@ -1,13 +1,11 @@
 -- A statement read from the file's bytes from its place on is read as in the file: the same values, the same places.
 use Prim.Native.Nat.{ℕ, zero, suc, _≤_}
-use mathlib.Core.Path.{_≡_, refl, _∙_, ap}
-use mathlib.Core.Bool.{true}
+use mathlib.Core.Path.{_≡_, _∙_, ap}
 use mathlib.Core.List.{List}
 use native.Mathlib.Omega.{arith}
 use lib.ListN.{length, drop}
-use Rattle.grammar.specs.Grammar.{Point, isPoint, next}
+use Rattle.grammar.specs.Grammar.{Point, isPoint}
 use Rattle.grammar.specs.Grammar.Point.{statement, done}
-use Rattle.grammar.proofs.Apart.{at-point}
 use Rattle.item.specs.Items.{itemAt}
 use Rattle.item.specs.declared.Item.{Item}
 use Rattle.item.proofs.Shows.{onward, from-there}

@@ -31,12 +31,12 @@ use Rattle.statement.specs.declared.StatementRead.the-variants.{Is, Refu
 -- ---- what is refused
 
 -- "A token's place is its first byte"
-abbrev pub no : ℕ → Item → StatementRead
-no n t = Refused (refusal n (t .place))
+abbrev pub refuse : ℕ → Item → StatementRead
+refuse n t = Refused (refusal n (t .place))
 
 -- 3 where the next bytes are no token, else 4
 abbrev pub unexpectedAt : Item → StatementRead
-unexpectedAt t = cond (eqb (t .class) noneNo) (no noToken t) (no unexpected t)
+unexpectedAt t = cond (eqb (t .class) noneNo) (refuse noToken t) (refuse unexpected t)
 
 -- the class may stand at the point
 abbrev pub may : Point → Class → Bool
@@ -45,8 +45,8 @@ may q c = not (isPoint (step q c) dead)
 -- a token whose class may not stand at the point; 5: "right shape of time or date where one may stand, but not a real one"
 abbrev pub otherwise : Point → Item → StatementRead
 otherwise q t =
-    cond (may q time && eqb (t .class) (classNo unrealTime)) (no notReal t)
-    (cond (may q date && eqb (t .class) (classNo unrealDate)) (no notReal t) (unexpectedAt t))
+    cond (may q time && eqb (t .class) (classNo unrealTime)) (refuse notReal t)
+    (cond (may q date && eqb (t .class) (classNo unrealDate)) (refuse notReal t) (unexpectedAt t))
 
 -- ---- what is held
 
@@ -153,7 +153,7 @@ orWhole A false h at r = r
 module _ (base : ℕ) (s : List ℕ) where
   -- the rest of a statement from the point q on, of at most n tokens
   unfoldable pub readWithin : ℕ → (q : Point) → Held q → ℕ → StatementRead
-  readWithin zero q h at = orWhole (Begun q) (isPoint q done) h at (no unexpected (itemAt base s at))
+  readWithin zero q h at = orWhole (Begun q) (isPoint q done) h at (refuse unexpected (itemAt base s at))
   readWithin (suc n) q h at =
       orWhole (Begun q) (isPoint q done) h at (onItem q h (itemAt base s at) (λ p k. readWithin n p k (itemAt base s at .next)))
 

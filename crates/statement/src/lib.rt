@@ -32,7 +32,7 @@ use token::Operator;
 ghost use mathlib.Core.Path.{_≡_};
 ghost use Rattle.item.specs.Items.{Seen};
 ghost use Rattle.grammar.specs.Grammar.Point.{ending, jobName, jobResponse, jobFile, moveFile, moveSource, moveStart, startKind, startTime, startDate, startOperator, startValue, infoFile, abortKind, abortName};
-ghost use Rattle.statement.specs.Statement.{no, unexpectedAt, partOf, condition, transferred, transfer, isNumberNo, readFrom, statementOf};
+ghost use Rattle.statement.specs.Statement.{refuse, unexpectedAt, partOf, condition, transferred, transfer, isNumberNo, readFrom, statementOf};
 
 // A part of the file: the place of its first byte, and its length. A name is held so.
 pub struct Part {
@@ -115,8 +115,8 @@ pub struct Transfer {
     pub source: Source,
 }
 
-fn no(number: u32, t: Item) -> StatementRead
-    ensures { λ r. ⌜ r ≡ no number t ⌝ }
+fn refuse(number: u32, t: Item) -> StatementRead
+    ensures { λ r. ⌜ r ≡ refuse number t ⌝ }
 {
     StatementRead::Refused(Refusal {
         number,
@@ -129,9 +129,9 @@ fn unexpected(t: Item) -> StatementRead
     ensures { λ r. ⌜ r ≡ unexpectedAt t ⌝ }
 {
     if t.class == NONE {
-        return no(NO_TOKEN, t);
+        return refuse(NO_TOKEN, t);
     }
-    no(UNEXPECTED, t)
+    refuse(UNEXPECTED, t)
 }
 
 fn part_of(t: Item) -> Part
@@ -293,7 +293,7 @@ fn start_date(s: &[u8], base: usize, at: usize, m: Transfer, clock: u32) -> Stat
         return StatementRead::Is(transferred(m, Start::At(clock, Day::Any)), t.next);
     }
     if t.class == UNREAL_DATE {
-        return no(NOT_REAL, t);
+        return refuse(NOT_REAL, t);
     }
     unexpected(t)
 }
@@ -308,7 +308,7 @@ fn start_time(s: &[u8], base: usize, at: usize, m: Transfer) -> StatementRead
         return start_date(s, base, t.next, m, t.value);
     }
     if t.class == UNREAL_TIME {
-        return no(NOT_REAL, t);
+        return refuse(NOT_REAL, t);
     }
     unexpected(t)
 }

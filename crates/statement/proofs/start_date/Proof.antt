@@ -23,8 +23,8 @@ transferred-requires-2 c κs = search needs
 returns-2 : tie.Need-returns-2
 returns-2 c = reads startDate _ _ _ _ (c .before .before .before .before .before .next-item .ensures .is) (rw (← c .transferred2 .ensures) (search along depth 9))
 
-no-requires : tie.Need-no-requires
-no-requires c κs = search needs
+refuse-requires : tie.Need-refuse-requires
+refuse-requires c κs = search needs
 
 returns-3 : tie.Need-returns-3
 returns-3 c = reads startDate _ _ _ _ (c .before .before .before .before .before .before .before .next-item .ensures .is) (search along depth 9)
@@ -45,7 +45,7 @@ start-date-spec =
     returns
     transferred-requires-2
     returns-2
-    no-requires
+    refuse-requires
     returns-3
     unexpected-requires
     returns-4)

@@ -15,8 +15,8 @@ start-date-requires c κs = search needs
 returns : tie.Need-returns
 returns c = reads startTime _ _ _ _ (c .before .before .before .next-item .ensures .is) (search choose depth 9)
 
-no-requires : tie.Need-no-requires
-no-requires c κs = search needs
+refuse-requires : tie.Need-refuse-requires
+refuse-requires c κs = search needs
 
 returns-2 : tie.Need-returns-2
 returns-2 c = reads startTime _ _ _ _ (c .before .before .before .before .before .next-item .ensures .is) (search choose depth 9)
@@ -34,7 +34,7 @@ start-time-spec =
     next-item-requires
     start-date-requires
     returns
-    no-requires
+    refuse-requires
     returns-2
     unexpected-requires
     returns-3)
