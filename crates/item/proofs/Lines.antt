@@ -13,7 +13,7 @@ use Rattle.token.specs.Token.{tokenAt, nextToken}
 use Rattle.token.specs.declared.Token.{Token}
 use Rattle.token.proofs.Ahead as token
 use Rattle.token.proofs.Ahead.{Span, Ahead}
-use Rattle.token.proofs.Ahead.Ahead.{the-end, a-fault, a-word, a-time-ge, a-number, a-time, a-text, a-sign, a-semicolon}
+use Rattle.token.proofs.Ahead.Ahead.{the-end, no-token as nothing-there, a-word, a-number, a-time, a-text, a-sign, a-semicolon}
 use Rattle.grammar.specs.Grammar.{Class}
 use Rattle.grammar.specs.Productions.{Said, Placed}
 use Rattle.item.specs.Tokens.{Next, at, itemOf, nextItem, Tokens, Line, lineOn, lineFrom, lineAt, line}
@@ -45,9 +45,8 @@ item-end {i} {a} {c} {x} {u} s e l =
 ahead-item : (s : List ℕ) (i : ℕ) (k : Token) → Ahead s i k → (t : Placed) → itemOf s k ≡ item t → (t .place ≡ i) × Span s i (t .end)
 unfolding itemOf
 ahead-item s i k (the-end l) t e = absurd (ended≢item e)
-ahead-item s i k (a-fault l) t e = absurd (none≢item e)
+ahead-item s i k (nothing-there l) t e = absurd (none≢item e)
 ahead-item s i k (a-word l) t e = item-end s e l
-ahead-item s i k (a-time-ge l) t e = item-end s e l
 ahead-item s i k (a-number l n) t e = item-end s e l
 ahead-item s i k (a-time l) t e = item-end s e l
 ahead-item s i k (a-text l) t e = item-end s e l
@@ -64,9 +63,8 @@ none≢ended e = let z : _≡_ {A = ℕ} 0 1 = cc in omega arith
 pub ahead-ended : (s : List ℕ) (i : ℕ) (k : Token) → Ahead s i k → (p : ℕ) → itemOf s k ≡ ended p → (p ≡ i) × (length s ≤ i)
 unfolding itemOf
 ahead-ended s i k (the-end l) p e = (cc, l)
-ahead-ended s i k (a-fault l) p e = absurd (none≢ended e)
+ahead-ended s i k (nothing-there l) p e = absurd (none≢ended e)
 ahead-ended s i k (a-word l) p e = absurd (item≢ended e)
-ahead-ended s i k (a-time-ge l) p e = absurd (item≢ended e)
 ahead-ended s i k (a-number l n) p e = absurd (item≢ended e)
 ahead-ended s i k (a-time l) p e = absurd (item≢ended e)
 ahead-ended s i k (a-text l) p e = absurd (item≢ended e)

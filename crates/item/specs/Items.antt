@@ -13,9 +13,9 @@ use Rattle.token.specs.Token.{nextToken}
 use Rattle.token.specs.declared.Operator.{Operator}
 use Rattle.token.specs.declared.Operator.the-variants.{Equal}
 use Rattle.token.specs.declared.Token.{Token}
-use Rattle.token.specs.declared.Token.the-variants.{End, Fault, Word, TimeGe, Number, Time, Text, Sign, Semicolon}
+use Rattle.token.specs.declared.Token.the-variants.{End, NoToken, Word, Number, Time, Text, Sign, Semicolon}
 use Rattle.grammar.specs.Grammar.{classNo}
-use Rattle.grammar.specs.Grammar.Class.{TIME≥, string, operator, semicolon}
+use Rattle.grammar.specs.Grammar.Class.{string, operator, semicolon}
 use Rattle.item.specs.Tokens.{wordClass, numberClass, dateNumber, timeClass, timeNumber}
 use Rattle.item.specs.declared.Item.{Item}
 
@@ -39,9 +39,8 @@ made base class start end value = madeOf base class start end value zero Equal
 
 unfoldable pub numbered : ℕ → List ℕ → Token → Item
 numbered base s (End p) = made base endNo p p 0
-numbered base s (Fault w p) = made base noneNo p p 0
-numbered base s (Word a b) = made base (classNo (wordClass s a b)) a b 0
-numbered base s (TimeGe a b) = made base (classNo TIME≥) a b 0
+numbered base s (NoToken w p) = made base noneNo p p 0
+numbered base s (Word w a b) = made base (classNo (wordClass w)) a b 0
 numbered base s (Number a b) = madeOf base (classNo (numberClass s a b)) a b (dateNumber s a b) (numberOf (part s a (b - a))) Equal
 numbered base s (Time a b) = made base (classNo (timeClass s a)) a b (timeNumber s a)
 numbered base s (Text a b) = made base (classNo string) a b 0

@@ -1,6 +1,6 @@
 -- The tokens of a job file as the grammar sees them: each with its class, its place and end, and what it says (document 01, "Bytes and tokens", "The job grammar").
 use Prim.Native.Nat.{ℕ, zero, suc, _+_, _-_, _*_}
-use mathlib.Core.Bool.{Bool, cond, _||_}
+use mathlib.Core.Bool.{cond}
 use mathlib.Core.Path.{_≡_}
 use mathlib.Core.List.{List, [], _∷_}
 use lib.Dec.{eqb}
@@ -10,15 +10,15 @@ use Rattle.decimal.specs.Read.{digitsRead}
 use Rattle.decimal.specs.declared.DigitsRead.{DigitsRead}
 use Rattle.decimal.specs.declared.DigitsRead.the-variants.{Value, NotDigits}
 use Rattle.field.specs.Part.{part}
-use Rattle.field.specs.Bytes.{ascii}
-use Rattle.scan.specs.Run.{isWordAt}
+use Rattle.word.specs.declared.Word.{Word}
+use Rattle.word.specs.declared.Word.the-variants.{Job, Response, Upload, Download, GetInfo, Abort, Report, Event, Start, Stop, Active, Time as TimeWord, Immediate, Never, TimeGe, Name}
 use Rattle.token.specs.Token.{nextToken}
 use Rattle.number.specs.Number.{numberOf}
 use Rattle.number.specs.declared.Number.{Number as NumberRead}
 use Rattle.token.specs.declared.Operator.{Operator}
 use Rattle.token.specs.declared.Operator.the-variants.{Equal, NotEqual, Above, Below, AtLeast, AtMost}
 use Rattle.token.specs.declared.Token.{Token}
-use Rattle.token.specs.declared.Token.the-variants.{End, Fault, Word, TimeGe, Number, Time, Text, Sign, Semicolon}
+use Rattle.token.specs.declared.Token.the-variants.{End, NoToken, Word as AWord, Number, Time, Text, Sign, Semicolon}
 use Rattle.grammar.specs.Grammar.{Class}
 use Rattle.grammar.specs.Grammar.Class.{JOB, RESPONSE, UPLOAD, DOWNLOAD, GETINFO, ABORT, REPORT, EVENT, START, ACTIVE, IMMEDIATE, reserved, name, TIME≥, number, date, unrealDate, time, unrealTime, string, operator, semicolon}
 use Rattle.grammar.specs.Statement as read
@@ -26,30 +26,24 @@ use Rattle.grammar.specs.Productions.{Said, unsaid, Placed}
 use Rattle.grammar.specs.Reading.{Last}
 use Rattle.grammar.specs.Reading.Last.{end, broken}
 
--- "Reserved: JOB RESPONSE UPLOAD DOWNLOAD GETINFO ABORT REPORT EVENT START STOP ACTIVE TIME IMMEDIATE NEVER. A name is a word that isn't
--- reserved.": the word from a to b
-abbrev pub isOther : List ℕ → ℕ → ℕ → Bool
-isOther s a b = isWordAt s a b (ascii "STOP") || isWordAt s a b (ascii "TIME") || isWordAt s a b (ascii "NEVER")
-
-unfoldable pub abortClass : List ℕ → ℕ → ℕ → Class
-abortClass s a b =
-    cond (isWordAt s a b (ascii "ABORT")) ABORT
-    (cond (isWordAt s a b (ascii "REPORT")) REPORT
-    (cond (isWordAt s a b (ascii "EVENT")) EVENT (cond (isOther s a b) reserved name)))
-
-unfoldable pub clauseClass : List ℕ → ℕ → ℕ → Class
-clauseClass s a b =
-    cond (isWordAt s a b (ascii "START")) START
-    (cond (isWordAt s a b (ascii "ACTIVE")) ACTIVE
-    (cond (isWordAt s a b (ascii "IMMEDIATE")) IMMEDIATE
-    (cond (isWordAt s a b (ascii "RESPONSE")) RESPONSE (abortClass s a b))))
-
-unfoldable pub wordClass : List ℕ → ℕ → ℕ → Class
-wordClass s a b =
-    cond (isWordAt s a b (ascii "JOB")) JOB
-    (cond (isWordAt s a b (ascii "UPLOAD")) UPLOAD
-    (cond (isWordAt s a b (ascii "DOWNLOAD")) DOWNLOAD
-    (cond (isWordAt s a b (ascii "GETINFO")) GETINFO (clauseClass s a b))))
+-- the class of a word: STOP, TIME and NEVER stand in no production
+abbrev pub wordClass : Word → Class
+wordClass Job = JOB
+wordClass Response = RESPONSE
+wordClass Upload = UPLOAD
+wordClass Download = DOWNLOAD
+wordClass GetInfo = GETINFO
+wordClass Abort = ABORT
+wordClass Report = REPORT
+wordClass Event = EVENT
+wordClass Start = START
+wordClass Stop = reserved
+wordClass Active = ACTIVE
+wordClass TimeWord = reserved
+wordClass Immediate = IMMEDIATE
+wordClass Never = reserved
+wordClass TimeGe = TIME≥
+wordClass Name = name
 
 -- the number that a field of digits is; 0 where it is none
 abbrev pub valueOf : DigitsRead → ℕ
@@ -112,9 +106,8 @@ at c a b x = item (record { class = c; place = a; end = b; said = x })
 
 unfoldable pub itemOf : List ℕ → Token → Next
 itemOf s (End p) = ended p
-itemOf s (Fault w p) = none p
-itemOf s (Word a b) = at (wordClass s a b) a b unsaid
-itemOf s (TimeGe a b) = at TIME≥ a b unsaid
+itemOf s (NoToken w p) = none p
+itemOf s (AWord w a b) = at (wordClass w) a b unsaid
 itemOf s (Number a b) = at (numberClass s a b) a b (saysNumber (dateNumber s a b) (numberOf (part s a (b - a))))
 itemOf s (Time a b) = at (timeClass s a) a b (saysTime (timeNumber s a))
 itemOf s (Text a b) = at string a b unsaid

@@ -5,10 +5,10 @@ use decimal::DigitsRead;
 use decimal::digits_at;
 use number::Number;
 use number::number_at;
-use scan::is_word;
 use token::Operator;
 use token::Token;
 use token::next_token;
+use word::Word;
 ghost use mathlib.Core.Path.{_≡_};
 ghost use Prim.Native.Nat.{_+_, _-_, _≤_, _<_};
 ghost use lib.ListN.{length};
@@ -17,7 +17,7 @@ ghost use Rattle.grammar.specs.Grammar.{classNo};
 ghost use Rattle.field.specs.Part.{part};
 ghost use Rattle.token.specs.Token.{Short};
 ghost use Rattle.number.specs.Number.{numberOf};
-ghost use Rattle.item.specs.Tokens.{isOther, abortClass, clauseClass, wordClass, numberClass, dateNumber, twoAt, timeClass, timeNumber};
+ghost use Rattle.item.specs.Tokens.{wordClass, numberClass, dateNumber, twoAt, timeClass, timeNumber};
 ghost use Rattle.token.specs.declared.Operator.the-variants.{Equal};
 ghost use Rattle.grammar.specs.Grammar.Class.{operator as operatorClass};
 ghost use Rattle.item.specs.Items.{zero, madeOf, made, Seen, Stood};
@@ -88,72 +88,28 @@ pub struct Item {
     pub operator: Operator,
 }
 
-// A reserved word that no production takes.
-fn is_other(s: &[u8], a: usize, b: usize) -> bool
-    requires { ⌜ a ≤ b ⌝ }
-    ensures { λ r. ⌜ r ≡ isOther (now (s .entry)) a b ⌝ }
+// The class of a word.
+fn word_class(word: Word) -> u8
+    ensures { λ r. ⌜ r ≡ classNo (wordClass word) ⌝ }
 {
-    is_word(s, a, b, b"STOP") | is_word(s, a, b, b"TIME") | is_word(s, a, b, b"NEVER")
-}
-
-// The words of ABORT, or a name.
-fn abort_class(s: &[u8], a: usize, b: usize) -> u8
-    requires { ⌜ a ≤ b ⌝ }
-    ensures { λ r. ⌜ r ≡ classNo (abortClass (now (s .entry)) a b) ⌝ }
-{
-    if is_word(s, a, b, b"ABORT") {
-        return ABORT;
+    match word {
+        Word::Job => JOB,
+        Word::Response => RESPONSE,
+        Word::Upload => UPLOAD,
+        Word::Download => DOWNLOAD,
+        Word::GetInfo => GETINFO,
+        Word::Abort => ABORT,
+        Word::Report => REPORT,
+        Word::Event => EVENT,
+        Word::Start => START,
+        Word::Stop => RESERVED,
+        Word::Active => ACTIVE,
+        Word::Time => RESERVED,
+        Word::Immediate => IMMEDIATE,
+        Word::Never => RESERVED,
+        Word::TimeGe => TIME_GE,
+        Word::Name => NAME,
     }
-    if is_word(s, a, b, b"REPORT") {
-        return REPORT;
-    }
-    if is_word(s, a, b, b"EVENT") {
-        return EVENT;
-    }
-    if is_other(s, a, b) {
-        return RESERVED;
-    }
-    NAME
-}
-
-// The words within a statement, or else.
-fn clause_class(s: &[u8], a: usize, b: usize) -> u8
-    requires { ⌜ a ≤ b ⌝ }
-    ensures { λ r. ⌜ r ≡ classNo (clauseClass (now (s .entry)) a b) ⌝ }
-{
-    if is_word(s, a, b, b"START") {
-        return START;
-    }
-    if is_word(s, a, b, b"ACTIVE") {
-        return ACTIVE;
-    }
-    if is_word(s, a, b, b"IMMEDIATE") {
-        return IMMEDIATE;
-    }
-    if is_word(s, a, b, b"RESPONSE") {
-        return RESPONSE;
-    }
-    abort_class(s, a, b)
-}
-
-// The class of the word from a to b.
-fn word_class(s: &[u8], a: usize, b: usize) -> u8
-    requires { ⌜ a ≤ b ⌝ }
-    ensures { λ r. ⌜ r ≡ classNo (wordClass (now (s .entry)) a b) ⌝ }
-{
-    if is_word(s, a, b, b"JOB") {
-        return JOB;
-    }
-    if is_word(s, a, b, b"UPLOAD") {
-        return UPLOAD;
-    }
-    if is_word(s, a, b, b"DOWNLOAD") {
-        return DOWNLOAD;
-    }
-    if is_word(s, a, b, b"GETINFO") {
-        return GETINFO;
-    }
-    clause_class(s, a, b)
 }
 
 // An item of a class, from start to end of the bytes that begin at base.
@@ -252,9 +208,8 @@ pub fn next_item(s: &[u8], base: usize, at: usize) -> Item
 {
     match next_token(s, at - base) {
         Token::End(p) => item_of(base, END, p, p, 0),
-        Token::Fault { why: _, place } => item_of(base, NONE, place, place, 0),
-        Token::Word { start, end } => item_of(base, word_class(s, start, end), start, end, 0),
-        Token::TimeGe { start, end } => item_of(base, TIME_GE, start, end, 0),
+        Token::NoToken { why: _, place } => item_of(base, NONE, place, place, 0),
+        Token::Word { word, start, end } => item_of(base, word_class(word), start, end, 0),
         Token::Number { start, end } => number_item(s, base, start, end),
         Token::Time { start, end } => time_item(s, base, start, end),
         Token::Text { start, end } => item_of(base, STRING, start, end, 0),

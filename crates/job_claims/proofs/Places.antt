@@ -11,7 +11,7 @@ use Rattle.token.specs.Token.{tokenAt, nextToken}
 use Rattle.token.specs.declared.Token.{Token}
 use Rattle.token.proofs.Ahead as token
 use Rattle.token.proofs.Ahead.{Ahead}
-use Rattle.token.proofs.Ahead.Ahead.{the-end, a-fault, a-word, a-time-ge, a-number, a-time, a-text, a-sign, a-semicolon}
+use Rattle.token.proofs.Ahead.Ahead.{the-end, no-token as nothing-there, a-word, a-number, a-time, a-text, a-sign, a-semicolon}
 use Rattle.grammar.specs.Productions.{Placed}
 use Rattle.grammar.specs.Reading.{Last}
 use Rattle.grammar.specs.Reading.Last.{end, broken}
@@ -33,9 +33,8 @@ lastPlace (broken p) = p
 stands-at : (s : List ℕ) (i : ℕ) (k : Token) → Ahead s i k → placeOf (itemOf s k) ≡ i
 unfolding itemOf
 stands-at s i k (the-end l) = refl
-stands-at s i k (a-fault l) = refl
+stands-at s i k (nothing-there l) = refl
 stands-at s i k (a-word l) = refl
-stands-at s i k (a-time-ge l) = refl
 stands-at s i k (a-number l n) = refl
 stands-at s i k (a-time l) = refl
 stands-at s i k (a-text l) = refl
