@@ -17,7 +17,7 @@ use Rattle.token.specs.Token.{wordToken, stringAt, isTextAt, isTimeAt, isNumber
 use Rattle.token.specs.declared.Token.{Token}
 use Rattle.token.specs.declared.Token.the-variants.{End, NoToken, Word, Number, Time, Text, Sign, Semicolon}
 use Rattle.item.specs.Tokens.{Next, at, numberClass, dateNumber, timeNumber, itemOf, nextItem}
-use Rattle.item.specs.Tokens.Next.{item, ended, none}
+use Rattle.item.specs.Tokens.Next.{item, ended, noTokenNext}
 
 -- the same token, one byte later
 abbrev pub up : Token → Token
@@ -33,7 +33,7 @@ up (Semicolon a b) = Semicolon (suc a) (suc b)
 abbrev pub upItem : Next → Next
 upItem (item t) = at (t .class) (suc (t .place)) (suc (t .end)) (t .said)
 upItem (ended p) = ended (suc p)
-upItem (none p) = none (suc p)
+upItem (noTokenNext why p) = noTokenNext why (suc p)
 
 of-word : (i : ℕ) (r : WordRead) → wordToken (suc i) (words.up r) ≡ up (wordToken i r)
 of-word i (Is w e) = refl

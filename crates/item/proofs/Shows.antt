@@ -1,19 +1,27 @@
 -- The item that code has shows what stands next; and the bytes of a file from a place on show it as the file does.
-use Prim.Native.Nat.{ℕ, zero, suc, _+_, _-_, _≤_}
+use Prim.Native.Nat.{ℕ, zero, suc, _+_, _-_, _≤_, _<_}
 use mathlib.Core.Path.{_≡_, refl, sym, _∙_, ap}
+use mathlib.Core.Bool.{false}
 use mathlib.Core.List.{List, [], _∷_}
 use native.Mathlib.Omega.{arith}
 use native.Mathlib.Nat.{add-suc, suc-add, suc-sub-suc}
+use borrow.Author.Tests.{ne-eqb}
+use lib.Dec.{eqb}
 use lib.ListN.{length, drop}
+use Rattle.counts.specs.Refusals.{unexpected}
 use Rattle.token.specs.Token.{nextToken}
+use Rattle.token.specs.declared.Why.{Why}
+use Rattle.token.specs.declared.Why.the-variants.{Stray, OpenString, BrokenString, Misshapen}
 use Rattle.token.specs.declared.Token.{Token}
 use Rattle.token.specs.declared.Token.the-variants.{End, NoToken, Word, Number, Time, Text, Sign, Semicolon}
 use Rattle.token.proofs.Ahead.{Lies, startOf, endOf, lies}
-use Rattle.grammar.specs.Grammar.{classNo}
+use Rattle.grammar.specs.Grammar.{Class, classNo}
+use Rattle.grammar.specs.Reading.{noTokenNumber}
+use Rattle.grammar.proofs.Apart.{class-below}
 use Rattle.grammar.specs.Productions.{Placed}
 use Rattle.item.specs.Tokens.{Next, itemOf, nextItem}
-use Rattle.item.specs.Tokens.Next.{item, ended, none}
-use Rattle.item.specs.Items.{endNo, noneNo, numbered, itemAt}
+use Rattle.item.specs.Tokens.Next.{item, ended, noTokenNext}
+use Rattle.item.specs.Items.{endNo, noTokenNo, refusalNo, numbered, itemAt}
 use Rattle.item.specs.declared.Item.{Item}
 use Rattle.item.proofs.Standing.{next-of}
 use Rattle.item.proofs.Shifted.{up, next-up, part-up, number-class-up, date-up, time-up}
@@ -22,7 +30,20 @@ use Rattle.item.proofs.Shifted.{up, next-up, part-up, number-class-up, 
 pub data Shows (t : Item) : Next → Type 0 where
   a-token : {u : Placed} → t .class ≡ classNo (u .class) → t .place ≡ u .place → t .next ≡ u .end → Shows t (item u)
   the-end : {p : ℕ} → t .class ≡ endNo → t .place ≡ p → Shows t (ended p)
-  no-token : {p : ℕ} → t .class ≡ noneNo → t .place ≡ p → Shows t (none p)
+  no-token : {why : Why} {p : ℕ} → t .class ≡ noTokenNo why → t .place ≡ p → Shows t (noTokenNext why p)
+
+-- the numbers of no token are above that of the end, and those of the classes below
+pub no-token-numbers : (why : Why) → (22 < noTokenNo why) × (refusalNo (noTokenNo why) ≡ noTokenNumber why)
+no-token-numbers Stray = (omega arith, refl)
+no-token-numbers OpenString = (omega arith, refl)
+no-token-numbers BrokenString = (omega arith, refl)
+no-token-numbers Misshapen = (omega arith, refl)
+
+pub token-number : (c : Class) → refusalNo (classNo c) ≡ unexpected
+token-number c = rw (other 22 (omega arith), other 23 (omega arith), other 24 (omega arith), other 25 (omega arith), other 26 (omega arith))
+  where
+    other : (n : ℕ) → 22 ≤ n → eqb (classNo c) n ≡ false
+    other n l = ne-eqb (classNo c) n (λ e. omega (arith, class-below c))
 
 none-before : (n : ℕ) → 0 + n ≡ n
 none-before n = omega arith

@@ -17,11 +17,12 @@ use Rattle.scan.specs.Kinds.{isDigit, isLetter}
 use Rattle.scan.specs.Run.{run, runEnd, blank, blankEnd}
 use Rattle.word.specs.Word.{whichWord, wordRead}
 use Rattle.token.specs.Token.{wordToken, stringAt, isTextAt, isTimeAt, isNumberAt, shapedAt, numericAt, signAt, tokenAt, nextToken}
+use Rattle.token.specs.declared.Why.{Why}
 use Rattle.token.specs.declared.Token.{Token}
 use Rattle.grammar.specs.Grammar.{Class}
 use Rattle.grammar.specs.Grammar.Class.{JOB, RESPONSE, UPLOAD, DOWNLOAD, GETINFO, ABORT, REPORT, EVENT, START, ACTIVE, IMMEDIATE, reserved, name, TIME≥, number, date, unrealDate, time, unrealTime, string, operator, semicolon}
 use Rattle.grammar.specs.Reading.{Last}
-use Rattle.grammar.specs.Reading.Last.{end, broken}
+use Rattle.grammar.specs.Reading.Last.{end, noTokenAt}
 use Rattle.grammar.specs.Productions.{Said, Placed, classes, Legal, Begins}
 use Rattle.grammar.proofs.Relabel.{relabel}
 use Rattle.item.specs.Tokens.{at, numberClass, timeNumber, itemOf, nextItem, Tokens}
@@ -44,13 +45,13 @@ first-is : (s : List ℕ) (i : ℕ) (c : Class) (p b : ℕ) (x : Said) (cs : Lis
 first-is s i c p b x cs e r =
     record { tokens = record { class = c; place = p; end = b; said = x } ∷ r .tokens; place = r .place; read = then e (r .read); are = ap (λ (k : List Class). c ∷ k) (r .are) }
 
-broken≢end : {p q : ℕ} → broken p ≡ end q → ⊥
-broken≢end e = let z : _≡_ {A = ℕ} 0 1 = cc in omega arith
+no-token≢end : {why : Why} {p q : ℕ} → noTokenAt why p ≡ end q → ⊥
+no-token≢end e = let z : _≡_ {A = ℕ} 0 1 = cc in omega arith
 
 -- a byte more in front
 tokens-up : (x : ℕ) {v : List ℕ} {i : ℕ} {ts : List Placed} {z : Last} → Tokens v i ts z → (p : ℕ) → z ≡ end p → Spelled (x ∷ v) (suc i) (classes ts)
 tokens-up x {v} {i} (at-end {p = q} e) p z = at-the-end (x ∷ v) (suc i) (suc q) (next-item-up x v i (ended q) e)
-tokens-up x (no-token e) p z = absurd (broken≢end z)
+tokens-up x (no-token e) p z = absurd (no-token≢end z)
 tokens-up x {v} {i} (then {t = t} {ts = ts} e r) p z =
     first-is (x ∷ v) (suc i) (t .class) (suc (t .place)) (suc (t .end)) (t .said) (classes ts) (next-item-up x v i (item t) e) (tokens-up x r p z)
 

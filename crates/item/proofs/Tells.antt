@@ -16,7 +16,7 @@ use Rattle.field.specs.Part.{part}
 use Rattle.number.specs.Number.{numberOf}
 use Rattle.number.specs.declared.Number.{Number as NumberRead}
 use Rattle.item.specs.Tokens.{Next, wordClass, numberClass, dateNumber, timeClass, timeNumber, paperNumber, paperOperator, itemOf, nextItem}
-use Rattle.item.specs.Tokens.Next.{item, ended, none}
+use Rattle.item.specs.Tokens.Next.{item, ended, noTokenNext}
 use Rattle.item.specs.Items.{zero, madeOf, numbered, itemAt}
 use Rattle.item.specs.declared.Item.{Item}
 
@@ -32,7 +32,7 @@ pub record Tells (t : Item) (u : Placed) : Type 0 where
 abbrev Told : Item → Next → Type 0
 Told t (item u) = Tells t u
 Told t (ended p) = Unit {0}
-Told t (none p) = Unit {0}
+Told t (noTokenNext why p) = Unit {0}
 
 made-tells : (c : Class) (a b v : ℕ) (n : NumberRead) (o : Operator) → a ≤ b
     → Tells (madeOf 0 (classNo c) a b v n o) (record { class = c; place = a; end = b; said = record { moment = v; number = paperNumber n; operator = paperOperator o } })

@@ -17,6 +17,7 @@ use Rattle.number.specs.Number.{numberOf}
 use Rattle.number.specs.declared.Number.{Number as NumberRead}
 use Rattle.token.specs.declared.Operator.{Operator}
 use Rattle.token.specs.declared.Operator.the-variants.{Equal, NotEqual, Above, Below, AtLeast, AtMost}
+use Rattle.token.specs.declared.Why.{Why}
 use Rattle.token.specs.declared.Token.{Token}
 use Rattle.token.specs.declared.Token.the-variants.{End, NoToken, Word as AWord, Number, Time, Text, Sign, Semicolon}
 use Rattle.grammar.specs.Grammar.{Class}
@@ -24,7 +25,7 @@ use Rattle.grammar.specs.Grammar.Class.{JOB, RESPONSE, UPLOAD, DOWNLOAD, GETINF
 use Rattle.grammar.specs.Statement as read
 use Rattle.grammar.specs.Productions.{Said, unsaid, Placed}
 use Rattle.grammar.specs.Reading.{Last}
-use Rattle.grammar.specs.Reading.Last.{end, broken}
+use Rattle.grammar.specs.Reading.Last.{end, noTokenAt}
 
 -- the class of a word: STOP, TIME and NEVER stand in no production
 abbrev pub wordClass : Word → Class
@@ -96,17 +97,18 @@ saysNumber n x = record { moment = n; number = paperNumber x; operator = unsaid 
 abbrev pub saysOperator : Operator → Said
 saysOperator o = record { moment = unsaid .moment; number = unsaid .number; operator = paperOperator o }
 
--- what stands next: a token; the end of the file; no token
+-- what stands next: a token; the end of the file; no token, and why
 pub data Next : Type 0 where
   item : Placed → Next
-  ended none : ℕ → Next
+  ended : ℕ → Next
+  noTokenNext : Why → ℕ → Next
 
 abbrev pub at : Class → ℕ → ℕ → Said → Next
 at c a b x = item (record { class = c; place = a; end = b; said = x })
 
 unfoldable pub itemOf : List ℕ → Token → Next
 itemOf s (End p) = ended p
-itemOf s (NoToken w p) = none p
+itemOf s (NoToken why p) = noTokenNext why p
 itemOf s (AWord w a b) = at (wordClass w) a b unsaid
 itemOf s (Number a b) = at (numberClass s a b) a b (saysNumber (dateNumber s a b) (numberOf (part s a (b - a))))
 itemOf s (Time a b) = at (timeClass s a) a b (saysTime (timeNumber s a))
@@ -121,7 +123,7 @@ nextItem s i = itemOf s (nextToken s i)
 -- the tokens from a place on are ts, and z ends them
 pub data Tokens (s : List ℕ) : ℕ → List Placed → Last → Type 0 where
   at-end : {i p : ℕ} → nextItem s i ≡ ended p → Tokens s i [] (end p)
-  no-token : {i p : ℕ} → nextItem s i ≡ none p → Tokens s i [] (broken p)
+  no-token : {i p : ℕ} {why : Why} → nextItem s i ≡ noTokenNext why p → Tokens s i [] (noTokenAt why p)
   then : {i : ℕ} {t : Placed} {ts : List Placed} {z : Last} → nextItem s i ≡ item t → Tokens s (t .end) ts z → Tokens s i (t ∷ ts) z
 
 -- from the place i on the next tokens are a, and e is the place after the last of them
@@ -138,11 +140,11 @@ pub record Line : Type 0 where
 
 abbrev pub lineOn : Next → (ℕ → Line) → Line
 lineOn (ended p) k = record { tokens = []; last = end p }
-lineOn (none p) k = record { tokens = []; last = broken p }
+lineOn (noTokenNext why p) k = record { tokens = []; last = noTokenAt why p }
 lineOn (item t) k = let r = k (t .end) in record { tokens = t ∷ r .tokens; last = r .last }
 
 unfoldable pub lineFrom : ℕ → List ℕ → ℕ → Line
-lineFrom zero s i = record { tokens = []; last = broken i }
+lineFrom zero s i = record { tokens = []; last = end i }
 lineFrom (suc n) s i = lineOn (nextItem s i) (λ b. lineFrom n s b)
 
 -- the tokens of a file from a place on, and what ends them

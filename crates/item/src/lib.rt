@@ -1,12 +1,15 @@
 // The next token of a job file with its class: what the grammar sees of it, as a struct of numbers.
 use calendar::is_real_date;
 use calendar::is_real_time;
+use counts::NO_TOKEN;
+use counts::UNEXPECTED;
 use decimal::DigitsRead;
 use decimal::digits_at;
 use number::Number;
 use number::number_at;
 use token::Operator;
 use token::Token;
+use token::Why;
 use token::next_token;
 use word::Word;
 ghost use mathlib.Core.Path.{_≡_};
@@ -20,7 +23,7 @@ ghost use Rattle.number.specs.Number.{numberOf};
 ghost use Rattle.item.specs.Tokens.{wordClass, numberClass, dateNumber, twoAt, timeClass, timeNumber};
 ghost use Rattle.token.specs.declared.Operator.the-variants.{Equal};
 ghost use Rattle.grammar.specs.Grammar.Class.{operator as operatorClass};
-ghost use Rattle.item.specs.Items.{zero, madeOf, made, Seen, Stood};
+ghost use Rattle.item.specs.Items.{noTokenNo, refusalNo, zero, madeOf, made, Seen, Stood};
 
 // The classes of tokens.
 
@@ -73,8 +76,14 @@ pub const SEMICOLON: u8 = 21;
 // the end of the file
 pub const END: u8 = 22;
 
-// no token
-pub const NONE: u8 = 23;
+// no token, by why it is none
+pub const STRAY: u8 = 23;
+
+pub const OPEN_STRING: u8 = 24;
+
+pub const BROKEN_STRING: u8 = 25;
+
+pub const MISSHAPEN: u8 = 26;
 
 // A token by its class: its first byte and the place after it, counted from the file's start; a date's or a time's number; what a number reads
 // as; and which operator it is.
@@ -109,6 +118,32 @@ fn word_class(word: Word) -> u8
         Word::Never => RESERVED,
         Word::TimeGe => TIME_GE,
         Word::Name => NAME,
+    }
+}
+
+// The number in place of a class where no token stands.
+fn no_token_class(why: Why) -> u8
+    ensures { λ r. ⌜ r ≡ noTokenNo why ⌝ }
+{
+    match why {
+        Why::Stray => STRAY,
+        Why::OpenString => OPEN_STRING,
+        Why::BrokenString => BROKEN_STRING,
+        Why::Misshapen => MISSHAPEN,
+    }
+}
+
+// The number that an item is refused with where it may not stand.
+pub fn refusal_number(class: u8) -> u32
+    ensures { λ r. ⌜ r ≡ refusalNo class ⌝ }
+{
+    match class {
+        END => UNEXPECTED,
+        STRAY => NO_TOKEN,
+        OPEN_STRING => NO_TOKEN,
+        BROKEN_STRING => NO_TOKEN,
+        MISSHAPEN => NO_TOKEN,
+        _ => UNEXPECTED,
     }
 }
 
@@ -208,7 +243,7 @@ pub fn next_item(s: &[u8], base: usize, at: usize) -> Item
 {
     match next_token(s, at - base) {
         Token::End(p) => item_of(base, END, p, p, 0),
-        Token::NoToken { why: _, place } => item_of(base, NONE, place, place, 0),
+        Token::NoToken { why, place } => item_of(base, no_token_class(why), place, place, 0),
         Token::Word { word, start, end } => item_of(base, word_class(word), start, end, 0),
         Token::Number { start, end } => number_item(s, base, start, end),
         Token::Time { start, end } => time_item(s, base, start, end),

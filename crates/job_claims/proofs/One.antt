@@ -9,18 +9,19 @@ use Rattle.grammar.specs.Grammar.{Class, Point, step, walk, isPoint, shape}
 use Rattle.grammar.specs.Grammar.Point.{statement, done, dead}
 use Rattle.grammar.specs.Productions.{Placed, classes}
 use Rattle.grammar.specs.Reading.{Last}
-use Rattle.grammar.specs.Reading.Last.{end, broken}
+use Rattle.grammar.specs.Reading.Last.{end, noTokenAt}
 use Rattle.grammar.specs.Rows.{real, Stands}
 use Rattle.grammar.proofs.Apart.{is-point}
 use Rattle.grammar.proofs.Points.{stays, refuted, elsewhere, walked-any, any-walks}
 use Rattle.grammar.proofs.Ways.{finish, finishes}
 use Rattle.grammar.proofs.Viable.{placed, its-classes}
+use Rattle.token.specs.declared.Why.{Why}
 use Rattle.item.specs.Tokens.{nextItem, Tokens, After}
-use Rattle.item.specs.Tokens.Next.{item, ended, none}
+use Rattle.item.specs.Tokens.Next.{item, ended, noTokenNext}
 use Rattle.item.specs.Tokens.Tokens.{at-end, no-token, then as and-then}
 use Rattle.statement.proofs.Plain.{Part, partAt}
 use Rattle.statement.proofs.Plain.Part.{whole, stopped}
-use Rattle.statement.proofs.Bridge.{on-token, on-end, on-none}
+use Rattle.statement.proofs.Bridge.{on-token, on-end, on-no-token}
 use Rattle.item.specs.Tokens.After.{here, then}
 use Rattle.job_claims.specs.Rows.{WholeOne, Opens, OneThree, OneFourEnd, OneFourToken, OneFive}
 
@@ -118,18 +119,18 @@ module _ (s : List ℕ) where
   pub next-end : {i p : ℕ} → Tokens s i [] (end p) → nextItem s i ≡ ended p
   next-end (at-end x) = x
 
-  next-none : {i p : ℕ} → Tokens s i [] (broken p) → nextItem s i ≡ none p
-  next-none (no-token x) = x
+  next-no-token : {i p : ℕ} {why : Why} → Tokens s i [] (noTokenAt why p) → nextItem s i ≡ noTokenNext why p
+  next-no-token (no-token x) = x
 
   -- the rows give the reading
   module _ (at : ℕ) (ts : List Placed) (z : Last) (d : Tokens s at ts z) where
     whole-is : (e : ℕ) → WholeAt s at e → partAt s statement at ≡ whole e
     whole-is e (a, f, w) = along f statement (ap (λ (q : Point). isPoint q dead) (any-walks (w .1))) ∙ ap (λ (q : Point). partAt s q e) (any-walks (w .1))
 
-    none-is : (p : ℕ) → OneThree ts z p → partAt s statement at ≡ stopped noToken p
-    none-is p (o, n, e) =
-        let c : Cut at ts [] (broken p) = cut ts (subst (Tokens s at ts) e d) (sym (append-nil ts)) in
-        along (c .first) statement (alive ts o) ∙ on-none s (point ts) (still-open ts n) (c .place) p (next-none (c .then-rest))
+    no-token-is : (p : ℕ) → OneThree ts z p → partAt s statement at ≡ stopped noToken p
+    no-token-is p (o, n, (why, e)) =
+        let c : Cut at ts [] (noTokenAt why p) = cut ts (subst (Tokens s at ts) e d) (sym (append-nil ts)) in
+        along (c .first) statement (alive ts o) ∙ on-no-token s (point ts) (still-open ts n) (c .place) why p (next-no-token (c .then-rest))
 
     end-is : (p : ℕ) → OneFourEnd ts z p → partAt s statement at ≡ stopped unexpected p
     end-is p (o, n, e) =
@@ -153,7 +154,7 @@ module _ (s : List ℕ) where
 
     pub says-one : (x : Part) → Judged s at ts z x → partAt s statement at ≡ x
     says-one x (read {e = e} o) = whole-is e o
-    says-one x (three {p = p} r) = none-is p r
+    says-one x (three {p = p} r) = no-token-is p r
     says-one x (four-end {p = p} r) = end-is p r
     says-one x (four-token {p = p} r) = four-is p r
     says-one x (five {p = p} r) = five-is p r
@@ -184,11 +185,11 @@ module _ (s : List ℕ) where
         go : (b : Bool) → isPoint (point a) done ≡ b → Judged s at (a ++ []) (end p) (partAt s (point a) i)
         go true e = at-done i a (a ++ []) (end p) f (is-point (point a) done e)
         go false n = rw (on-end s (point a) n i p x, append-nil a) (four-end (opens a l, not-whole a n, refl))
-    judge {i} (no-token {p = p} x) a f l = go (isPoint (point a) done) refl
+    judge {i} (no-token {p = p} {why = why} x) a f l = go (isPoint (point a) done) refl
       where
-        go : (b : Bool) → isPoint (point a) done ≡ b → Judged s at (a ++ []) (broken p) (partAt s (point a) i)
-        go true e = at-done i a (a ++ []) (broken p) f (is-point (point a) done e)
-        go false n = rw (on-none s (point a) n i p x, append-nil a) (three (opens a l, not-whole a n, refl))
+        go : (b : Bool) → isPoint (point a) done ≡ b → Judged s at (a ++ []) (noTokenAt why p) (partAt s (point a) i)
+        go true e = at-done i a (a ++ []) (noTokenAt why p) f (is-point (point a) done e)
+        go false n = rw (on-no-token s (point a) n i why p x, append-nil a) (three (opens a l, not-whole a n, (why, refl)))
     judge {i} {z = z} (and-then {t = t} {ts = us} x r) a f l = go (judge r (a ++ (t ∷ [])) (after-more f x)) (isPoint (point a) done) refl
       where
         go : (isPoint (point (a ++ (t ∷ []))) dead ≡ false → Judged s at ((a ++ (t ∷ [])) ++ us) z (partAt s (point (a ++ (t ∷ []))) (t .end))) → (c : Bool) → isPoint (point a) done ≡ c → Judged s at (a ++ (t ∷ us)) z (partAt s (point a) i)

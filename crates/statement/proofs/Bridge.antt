@@ -3,19 +3,20 @@ use Prim.Native.Nat.{ℕ}
 use mathlib.Core.Path.{_≡_, refl, sym, _∙_, ap, subst}
 use mathlib.Core.Bool.{Bool, true, false, true≢false, cond, not}
 use mathlib.Core.List.{List, [], _∷_}
-use Rattle.counts.specs.Refusals.{noToken, unexpected, notReal}
+use Rattle.counts.specs.Refusals.{unexpected, notReal}
 use Rattle.counts.specs.Result.Result.{refused}
 use Rattle.grammar.specs.Grammar.{Class, Point, Edge, next, look, step, isClass, isPoint, shape}
 use Rattle.grammar.specs.Grammar.Point.{first, between, statement, jobName, jobResponse, jobFile, moveFile, moveSource, moveStart, startKind, startTime, startDate, startOperator, startValue, infoFile, abortKind, abortName, ending, done, dead}
 use Rattle.grammar.specs.Productions.{Placed}
-use Rattle.grammar.specs.Reading.{State, Last, moves, atEnd, close}
+use Rattle.token.specs.declared.Why.{Why}
+use Rattle.grammar.specs.Reading.{State, Last, moves, atEnd, close, noTokenNumber, endNumber}
 use Rattle.grammar.specs.Reading.State.{on}
-use Rattle.grammar.specs.Reading.Last.{end, broken}
+use Rattle.grammar.specs.Reading.Last.{end, noTokenAt}
 use Rattle.grammar.proofs.Apart.{is-point}
 use Rattle.grammar.proofs.Points.{Each}
 use Rattle.grammar.proofs.Moves.{moves-wrong}
 use Rattle.item.specs.Tokens.{nextItem, Tokens}
-use Rattle.item.specs.Tokens.Next.{item, ended, none}
+use Rattle.item.specs.Tokens.Next.{item, ended, noTokenNext}
 use Rattle.item.specs.Tokens.Tokens.{at-end, no-token, then}
 use Rattle.statement.proofs.Plain.{Part, Branch, or, has, pick, onItem, oneOf, endingAt, jobFileAt, jobResponseAt, jobNameAt, startValueAt, startOperatorAt, startDateAt, startTimeAt, startKindAt, moveStartAt, moveSourceAt, moveFileAt, infoFileAt, abortNameAt, abortKindAt, partAt}
 use Rattle.statement.proofs.Plain.Part.{whole, stopped}
@@ -107,13 +108,13 @@ module _ (s : List ℕ) where
       ∙ pick-look (t .class) (t .end) (cond (has (shape (t .class)) (branches (next q))) (stopped notReal (t .place)) (stopped unexpected (t .place))) (next q) (lives q)
       ∙ ap (λ (x : Part). cond (isPoint (step q (t .class)) dead) x (partAt s (step q (t .class)) (t .end))) (rw (has-look (shape (t .class)) (next q) (lives q)) (swap (isPoint (step q (shape (t .class))) dead) (stopped notReal (t .place)) (stopped unexpected (t .place))))
 
-  pub on-end : (q : Point) → isPoint q done ≡ false → (i p : ℕ) → nextItem s i ≡ ended p → partAt s q i ≡ stopped unexpected p
+  pub on-end : (q : Point) → isPoint q done ≡ false → (i p : ℕ) → nextItem s i ≡ ended p → partAt s q i ≡ stopped endNumber p
   unfolding oneOf
   on-end q d i p e = by-edges q d i ∙ ap (onItem (branches (next q))) e
 
-  pub on-none : (q : Point) → isPoint q done ≡ false → (i p : ℕ) → nextItem s i ≡ none p → partAt s q i ≡ stopped noToken p
+  pub on-no-token : (q : Point) → isPoint q done ≡ false → (i : ℕ) (why : Why) (p : ℕ) → nextItem s i ≡ noTokenNext why p → partAt s q i ≡ stopped (noTokenNumber why) p
   unfolding oneOf
-  on-none q d i p e = by-edges q d i ∙ ap (onItem (branches (next q))) e
+  on-no-token q d i why p e = by-edges q d i ∙ ap (onItem (branches (next q))) e
 
   -- What a statement's answer says of the tokens ts from there on, ended by z: where it is whole, the reader goes on with the tokens
   -- after it, and where it stopped, that is the file's answer.
@@ -132,7 +133,7 @@ module _ (s : List ℕ) where
     at-token true false e f = ap (λ (x : State). close x z) (ap (λ (x : State). moves x ts) (rw (d, e, f)) ∙ moves-wrong notReal (t .place) ts)
     at-token false y e f = carry q (step q (t .class)) os (t ∷ ts) ts z (ap (λ (x : State). close (moves x ts) z) (rw (d, e))) (partAt s (step q (t .class)) (t .end)) later
 
-  open-end : (q : Point) (os : List ℕ) (p : ℕ) → isPoint q done ≡ false → atEnd q os p ≡ refused unexpected p
+  open-end : (q : Point) (os : List ℕ) (p : ℕ) → isPoint q done ≡ false → atEnd q os p ≡ refused endNumber p
   open-end q [] p d = refl
   open-end q (o ∷ os) p d = rw d
 
@@ -146,11 +147,11 @@ module _ (s : List ℕ) where
       go : (b : Bool) → isPoint q done ≡ b → Reads q os [] (end p) (partAt s q i)
       go true d = at-done q os i [] (end p) d (at-end e)
       go false d = subst (Reads q os [] (end p)) (sym (on-end q d i p e)) (open-end q os p d)
-  part-reads {i} (no-token {p = p} e) q os = go (isPoint q done) refl
+  part-reads {i} (no-token {p = p} {why = why} e) q os = go (isPoint q done) refl
     where
-      go : (b : Bool) → isPoint q done ≡ b → Reads q os [] (broken p) (partAt s q i)
-      go true d = at-done q os i [] (broken p) d (no-token e)
-      go false d = subst (Reads q os [] (broken p)) (sym (on-none q d i p e)) refl
+      go : (b : Bool) → isPoint q done ≡ b → Reads q os [] (noTokenAt why p) (partAt s q i)
+      go true d = at-done q os i [] (noTokenAt why p) d (no-token e)
+      go false d = subst (Reads q os [] (noTokenAt why p)) (sym (on-no-token q d i why p e)) refl
   part-reads {i} {ts = l} {z = z} (then {t = t} {ts = ts} e r) q os = go (part-reads r (step q (t .class)) os) (isPoint q done) refl
     where
       go : Reads (step q (t .class)) os ts z (partAt s (step q (t .class)) (t .end)) → (x : Bool) → isPoint q done ≡ x → Reads q os (t ∷ ts) z (partAt s q i)

@@ -6,14 +6,15 @@ use mathlib.Core.List.{List, [], _∷_}
 use native.Mathlib.Omega.{arith}
 use borrow.Author.Tests.{ne-eqb}
 use lib.Dec.{eqb}
-use Rattle.counts.specs.Refusals.{noToken, unexpected, notReal}
+use Rattle.counts.specs.Refusals.{unexpected, notReal}
 use Rattle.grammar.specs.Grammar.{Class, classNo, isClass, shape}
 use Rattle.grammar.specs.Grammar.Class.{date, unrealDate, time, unrealTime}
 use Rattle.grammar.proofs.Apart.{is-class, class-below}
+use Rattle.token.specs.declared.Why.{Why}
 use Rattle.item.specs.Tokens.{Next}
-use Rattle.item.specs.Items.{endNo, noneNo}
+use Rattle.item.specs.Items.{endNo, noTokenNo, refusalNo}
 use Rattle.item.specs.declared.Item.{Item}
-use Rattle.item.proofs.Shows.{Shows}
+use Rattle.item.proofs.Shows.{Shows, no-token-numbers, token-number}
 use Rattle.item.proofs.Shows.Shows.{a-token, the-end, no-token}
 use Rattle.statement.specs.declared.StatementRead.{StatementRead}
 use Rattle.statement.specs.declared.StatementRead.the-variants.{Is, Refused}
@@ -47,8 +48,8 @@ Foreign n = (c : Class) → eqb n (classNo c) ≡ false
 end-foreign : Foreign endNo
 end-foreign c = ne-eqb endNo (classNo c) (λ e. omega (arith, class-below c))
 
-none-foreign : Foreign noneNo
-none-foreign c = ne-eqb noneNo (classNo c) (λ e. omega (arith, class-below c))
+no-token-foreign : (why : Why) → Foreign (noTokenNo why)
+no-token-foreign why c = ne-eqb (noTokenNo why) (classNo c) (λ e. omega (arith, class-below c, no-token-numbers why .0))
 
 no-class : (t : Item) (n : ℕ) → t .class ≡ n → Foreign n → (bs : List values.Branch) (r : StatementRead) → values.pick t bs r ≡ r
 no-class t n e f [] r = refl
@@ -71,7 +72,7 @@ not-refused c b (x ∷ cs) r q h = go (λ k. not-refused c b cs r q k) (isClass 
 abbrev refusedOf : Class → ℕ → Bool → Bool → Part
 refusedOf c p times dates =
     cond (times && eqb (classNo c) (classNo unrealTime)) (stopped notReal p)
-    (cond (dates && eqb (classNo c) (classNo unrealDate)) (stopped notReal p) (cond (eqb (classNo c) noneNo) (stopped noToken p) (stopped unexpected p)))
+    (cond (dates && eqb (classNo c) (classNo unrealDate)) (stopped notReal p) (stopped (refusalNo (classNo c)) p))
 
 neither : (x y : Bool) (p : ℕ) → cond (x && false) (stopped notReal p) (cond (y && false) (stopped notReal p) (stopped unexpected p)) ≡ stopped unexpected p
 neither x y p = rw (and-false x, and-false y)
@@ -90,7 +91,7 @@ refused-so c p cs h = go (isClass c unrealTime) (isClass c unrealDate) refl refl
     go : (x y : Bool) → isClass c unrealTime ≡ x → isClass c unrealDate ≡ y → refusedOf c p (plain.has time cs) (plain.has date cs) ≡ cond (plain.has (shape c) cs) (stopped notReal p) (stopped unexpected p)
     go true y e f = rw (is-class c unrealTime e) (at-time (plain.has time cs) (plain.has date cs) p)
     go false true e f = rw (is-class c unrealDate f) (at-date (plain.has time cs) (plain.has date cs) p)
-    go false false e f = rw (e, f, h, ne-eqb (classNo c) noneNo (λ z. omega (arith, class-below c))) (neither (plain.has time cs) (plain.has date cs) p)
+    go false false e f = rw (e, f, h, token-number c) (neither (plain.has time cs) (plain.has date cs) p)
 
 forget-cond : (b : Bool) (x y : StatementRead) → forget (cond b x y) ≡ cond b (forget x) (forget y)
 forget-cond true x y = refl
@@ -120,5 +121,7 @@ module _ (t : Item) (c : Class) (p b : ℕ) (ec : t .class ≡ classNo c) (ep : 
 -- one law for every word
 pub on-alike : (bs : List values.Branch) (cs : List plain.Branch) → Alike bs cs → (t : Item) (x : Next) → Shows t x → forget (values.onItem bs t) ≡ plain.onItem cs x
 on-alike bs cs a t x (the-end {p = p} e q) = ap forget (no-class t endNo e end-foreign bs _ ∙ not-unreal t endNo e end-foreign bs) ∙ rw (e, q)
-on-alike bs cs a t x (no-token {p = p} e q) = ap forget (no-class t noneNo e none-foreign bs _ ∙ not-unreal t noneNo e none-foreign bs) ∙ rw (e, q)
+on-alike bs cs a t x (no-token {why = why} {p = p} e q) =
+    ap forget (no-class t (noTokenNo why) e (no-token-foreign why) bs _ ∙ not-unreal t (noTokenNo why) e (no-token-foreign why) bs)
+    ∙ rw (e, q, no-token-numbers why .1)
 on-alike bs cs a t x (a-token {u = u} e p n) = on-token t (u .class) (u .place) (u .end) e p n bs cs a (plain.has (u .class) cs) refl

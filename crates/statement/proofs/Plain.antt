@@ -3,12 +3,13 @@
 use Prim.Native.Nat.{ℕ}
 use mathlib.Core.Bool.{Bool, true, false, cond}
 use mathlib.Core.List.{List, [], _∷_}
-use Rattle.counts.specs.Refusals.{noToken, unexpected, notReal}
+use Rattle.counts.specs.Refusals.{unexpected, notReal}
 use Rattle.grammar.specs.Grammar.{Class, Point, isClass, shape}
 use Rattle.grammar.specs.Grammar.Class.{JOB, RESPONSE, UPLOAD, DOWNLOAD, GETINFO, ABORT, REPORT, EVENT, START, ACTIVE, IMMEDIATE, name, TIME≥, number, date, unrealDate, time, string, operator, semicolon}
 use Rattle.grammar.specs.Grammar.Point.{first, between, statement, jobName, jobResponse, jobFile, moveFile, moveSource, moveStart, startKind, startTime, startDate, startOperator, startValue, infoFile, abortKind, abortName, ending, done, dead}
+use Rattle.grammar.specs.Reading.{noTokenNumber, endNumber}
 use Rattle.item.specs.Tokens.{Next, nextItem}
-use Rattle.item.specs.Tokens.Next.{item, ended, none}
+use Rattle.item.specs.Tokens.Next.{item, ended, noTokenNext}
 
 -- a statement's rest: the place after its ;, or the refusal
 pub data Part : Type 0 where
@@ -33,8 +34,8 @@ pick c b [] r = r
 pick c b (x ∷ bs) r = cond (isClass c (x .class)) (x .go b) (pick c b bs r)
 
 abbrev pub onItem : List Branch → Next → Part
-onItem bs (ended p) = stopped unexpected p
-onItem bs (none p) = stopped noToken p
+onItem bs (ended p) = stopped endNumber p
+onItem bs (noTokenNext why p) = stopped (noTokenNumber why) p
 onItem bs (item t) = pick (t .class) (t .end) bs (cond (has (shape (t .class)) bs) (stopped notReal (t .place)) (stopped unexpected (t .place)))
 
 -- one of the classes must stand at i

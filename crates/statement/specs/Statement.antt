@@ -5,11 +5,11 @@ use Prim.Native.Nat.{ℕ}
 use mathlib.Core.Bool.{Bool, true, false, cond, _&&_, _||_}
 use mathlib.Core.List.{List, [], _∷_}
 use lib.Dec.{eqb}
-use Rattle.counts.specs.Refusals.{noToken, unexpected, notReal, refusal}
+use Rattle.counts.specs.Refusals.{notReal, refusal}
 use Rattle.token.specs.declared.Operator.{Operator}
 use Rattle.grammar.specs.Grammar.{Class, classNo, isClass}
 use Rattle.grammar.specs.Grammar.Class.{JOB, RESPONSE, UPLOAD, DOWNLOAD, GETINFO, ABORT, REPORT, EVENT, START, ACTIVE, IMMEDIATE, name, TIME≥, number, date, unrealDate, time, unrealTime, string, operator, semicolon}
-use Rattle.item.specs.Items.{noneNo, itemAt}
+use Rattle.item.specs.Items.{refusalNo, itemAt}
 use Rattle.item.specs.declared.Item.{Item}
 use Rattle.statement.specs.declared.Part.{Part}
 use Rattle.statement.specs.declared.Source.{Source}
@@ -31,9 +31,9 @@ use Rattle.statement.specs.declared.StatementRead.the-variants.{Is, Refu
 abbrev pub no : ℕ → Item → StatementRead
 no n t = Refused (refusal n (t .place))
 
--- 3 where the next bytes are no token, else 4
+-- what may not stand: the end of the file, no token, or a token
 abbrev pub unexpectedAt : Item → StatementRead
-unexpectedAt t = cond (eqb (t .class) noneNo) (no noToken t) (no unexpected t)
+unexpectedAt t = no (refusalNo (t .class)) t
 
 -- a class that may stand, and what is read after it
 pub record Branch : Type 0 where

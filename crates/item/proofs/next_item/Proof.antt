@@ -17,7 +17,8 @@ next-item-spec =
     (λ c. search needs)
     (λ c κs. let l = lies _ _ _ _ (c .before .before .before .next-token .ensures) (c .before .p .given .1) in omega arith)
     (λ c. search needs)
-    (λ c κs. let l = lies _ _ _ _ (c .before .before .before .next-token .ensures) (c .before .place .given .1) in omega arith)
+    (λ c κs. search needs)
+    (λ c κs. let l = lies _ _ _ _ (c .before .before .before .before .next-token .ensures) (c .before .before .why .given .1) in omega arith)
     (λ c. search needs)
     (λ c κs. search needs)
     (λ c κs. let l = lies _ _ _ _ (c .before .before .before .before .next-token .ensures) (c .before .before .word .given .1) in omega arith)
@@ -38,8 +39,8 @@ next-item-spec =
     stood _ _ _ (c .before .before .before .before .before .before .pre) _ _ (c .before .before .before .before .next-token .ensures)
     (c .before .before .p .given .1) _ (c .item-of .ensures))
     (λ c.
-    stood _ _ _ (c .before .before .before .before .before .before .pre) _ _ (c .before .before .before .before .next-token .ensures)
-    (c .before .before .place .given .1) _ (c .item-of2 .ensures))
+    stood _ _ _ (c .before .before .before .before .before .before .before .pre) _ _ (c .before .before .before .before .before .next-token .ensures)
+    (c .before .before .before .why .given .1) _ (rw (← c .before .no-token-class .ensures) (c .item-of2 .ensures)))
     (λ c.
     stood _ _ _ (c .before .before .before .before .before .before .before .pre) _ _ (c .before .before .before .before .before .next-token .ensures)
     (c .before .before .before .word .given .1) _ (rw (← c .before .word-class .ensures) (c .item-of3 .ensures)))
