@@ -6,11 +6,12 @@ use mathlib.Core.Logic.{⊎-elim}
 use Rattle.laws.proofs.Choose.{and-left, and-right}
 use Rattle.field.specs.Bytes.{same, hasAt}
 use Rattle.field.specs.Part.{part}
-use Rattle.decimal.specs.Digits.{digits, value, isDigit, allDigits, widthFrom, plainWidth, plain}
+use Rattle.decimal.specs.Digits.{digits, value, allDigits, widthFrom, plainWidth, plain}
 use Rattle.decimal.specs.Read.{digitsRead}
 use Rattle.scan.specs.Run.{run, runEnd, blank, blankEnd}
-use Rattle.token.specs.Token.{wordAt, textAt, isTextAt, isTimeAt, isNumberAt, shapedAt, numericAt, signAt, tokenAt, nextToken}
-use Rattle.item.specs.Tokens.{abortClass, clauseClass, wordClass, numberClass, dateNumber, timeNumber, itemOf, nextItem, lineFrom, line}
+use Rattle.word.specs.Word.{whichWord, wordRead}
+use Rattle.token.specs.Token.{stringAt, isTextAt, isTimeAt, isNumberAt, shapedAt, numericAt, signAt, tokenAt, nextToken}
+use Rattle.item.specs.Tokens.{numberClass, dateNumber, timeNumber, itemOf, nextItem, lineFrom, line}
 use Rattle.grammar.specs.Reading.{read}
 use Rattle.job.specs.Job.{readJob}
 use Rattle.number.specs.Number.{digitsOf, scaleOf, numberOf}
@@ -22,7 +23,7 @@ use Rattle.claims.specs.Examples.{Row, examples, allHold}
 
 -- The one test. A row that leans on a new word has the word added to this line.
 pub examples-hold : allHold examples ≡ true
-unfolding examples allHold februaryLength monthLength realDate realTime part same hasAt digits value isDigit allDigits widthFrom plainWidth plain digitsRead kindRead numberRead nameRead run runEnd blank blankEnd wordAt textAt isTextAt isTimeAt isNumberAt shapedAt numericAt signAt tokenAt nextToken abortClass clauseClass wordClass numberClass dateNumber timeNumber itemOf nextItem lineFrom line read readJob digitsOf scaleOf numberOf momentBytes recordBytes
+unfolding examples allHold februaryLength monthLength realDate realTime part same hasAt digits value allDigits widthFrom plainWidth plain digitsRead kindRead numberRead nameRead run runEnd blank blankEnd stringAt isTextAt isTimeAt isNumberAt shapedAt numericAt signAt tokenAt nextToken whichWord wordRead numberClass dateNumber timeNumber itemOf nextItem lineFrom line read readJob digitsOf scaleOf numberOf momentBytes recordBytes
 examples-hold = refl
 
 -- so each row holds

@@ -9,8 +9,9 @@ use Rattle.counts.proofs.Results.{refused-not-done}
 use Rattle.field.specs.Bytes.{ascii, same, hasAt}
 use Rattle.field.specs.Part.{part}
 use Rattle.scan.specs.Run.{run, runEnd, blank, blankEnd}
-use Rattle.token.specs.Token.{wordAt, textAt, isTextAt, isTimeAt, isNumberAt, shapedAt, numericAt, signAt, tokenAt, nextToken}
-use Rattle.item.specs.Tokens.{abortClass, clauseClass, wordClass, numberClass, dateNumber, timeNumber, itemOf, nextItem, lineFrom, line}
+use Rattle.word.specs.Word.{whichWord, wordRead}
+use Rattle.token.specs.Token.{stringAt, isTextAt, isTimeAt, isNumberAt, shapedAt, numericAt, signAt, tokenAt, nextToken}
+use Rattle.item.specs.Tokens.{numberClass, dateNumber, timeNumber, itemOf, nextItem, lineFrom, line}
 use Rattle.item.specs.Items.{numbered as numbered-item, itemAt}
 use Rattle.grammar.specs.Reading.{read, OffsetsRead as Reading}
 use Rattle.statement.specs.Statement.{readWithin, readFrom, statementOf}
@@ -38,11 +39,11 @@ pair : List ℕ
 pair = ascii "JOB a RESPONSE \"x\";GETINFO \"y\";"
 
 lone-is : readJob lone 2 ≡ done (0 ∷ [])
-unfolding lone part same hasAt run runEnd blank blankEnd wordAt textAt isTextAt isTimeAt isNumberAt shapedAt numericAt signAt tokenAt nextToken abortClass clauseClass wordClass numberClass dateNumber timeNumber itemOf nextItem lineFrom line read readJob
+unfolding lone part same hasAt run runEnd blank blankEnd stringAt isTextAt isTimeAt isNumberAt shapedAt numericAt signAt tokenAt nextToken whichWord wordRead numberClass dateNumber timeNumber itemOf nextItem lineFrom line read readJob
 lone-is = refl
 
 pair-is : readJob pair 2 ≡ done (0 ∷ 19 ∷ [])
-unfolding pair part same hasAt run runEnd blank blankEnd wordAt textAt isTextAt isTimeAt isNumberAt shapedAt numericAt signAt tokenAt nextToken abortClass clauseClass wordClass numberClass dateNumber timeNumber itemOf nextItem lineFrom line read readJob
+unfolding pair part same hasAt run runEnd blank blankEnd stringAt isTextAt isTimeAt isNumberAt shapedAt numericAt signAt tokenAt nextToken whichWord wordRead numberClass dateNumber timeNumber itemOf nextItem lineFrom line read readJob
 pair-is = refl
 
 -- a lent table of two places
@@ -82,11 +83,11 @@ job-read : (f : StatementReader) → ReadsStatements f → f lone 0 ≡ readStat
 job-read f rows = sym (read-statement-exactly lone 0 .1 (f lone 0) (rows lone 0))
 
 info-is : (e : ℕ) × readStatement info 0 ≡ done (placedAt (GetInfo 8) 0 e)
-unfolding info part same hasAt run runEnd blank blankEnd wordAt textAt isTextAt isTimeAt isNumberAt shapedAt numericAt signAt tokenAt nextToken abortClass clauseClass wordClass numberClass dateNumber timeNumber numbered-item itemAt readWithin readFrom statementOf readStatement
+unfolding info part same hasAt run runEnd blank blankEnd stringAt isTextAt isTimeAt isNumberAt shapedAt numericAt signAt tokenAt nextToken whichWord wordRead numberClass dateNumber timeNumber numbered-item itemAt readWithin readFrom statementOf readStatement
 info-is = (_, refl)
 
 job-is : (e : ℕ) × readStatement lone 0 ≡ done (placedAt (Job (record { place = 4; length = 1 }) 15) 0 e)
-unfolding lone part same hasAt run runEnd blank blankEnd wordAt textAt isTextAt isTimeAt isNumberAt shapedAt numericAt signAt tokenAt nextToken abortClass clauseClass wordClass numberClass dateNumber timeNumber numbered-item itemAt readWithin readFrom statementOf readStatement
+unfolding lone part same hasAt run runEnd blank blankEnd stringAt isTextAt isTimeAt isNumberAt shapedAt numericAt signAt tokenAt nextToken whichWord wordRead numberClass dateNumber timeNumber numbered-item itemAt readWithin readFrom statementOf readStatement
 job-is = (_, refl)
 
 pub statement-must-be-read : (f : StatementReader) → ReadsStatements f → StatementRefuses f → ⊥

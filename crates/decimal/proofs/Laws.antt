@@ -62,11 +62,9 @@ digits-above (suc w) q v =
 -- ---- digit bytes read and written again
 
 pub digit-low : (d : ℕ) → isDigit d ≡ true → 48 ≤ d
-unfolding isDigit
 digit-low d h = leb-true 48 d (and-left (leb 48 d) (leb d 57) h)
 
 pub digit-high : (d : ℕ) → isDigit d ≡ true → d ≤ 57
-unfolding isDigit
 digit-high d h = leb-true d 57 (and-right (leb 48 d) (leb d 57) h)
 
 pub value-lt : (ds : List ℕ) → allDigits ds ≡ true → value ds < 10 ^ length ds

@@ -83,15 +83,12 @@ read-short s at w h short =
     rw e
 
 pub low-byte : (d : ℕ) → d < 48 → isDigit d ≡ false
-unfolding isDigit
 low-byte d h = rw (lt-leb 48 d h)
 
 pub high-byte : (d : ℕ) → 57 < d → isDigit d ≡ false
-unfolding isDigit
 high-byte d h = rw (le-leb 48 d (omega arith), lt-leb d 57 h)
 
 pub digit-byte : (d : ℕ) → 48 ≤ d → d ≤ 57 → isDigit d ≡ true
-unfolding isDigit
 digit-byte d low high = rw (le-leb 48 d low, le-leb d 57 high)
 
 -- ---- a field of w bytes reads as v exactly where its bytes are v's w digits

@@ -16,7 +16,7 @@ value [] = 0
 value (d ∷ ds) = (d - 48) * 10 ^ length ds + value ds
 
 -- '0' to '9'
-unfoldable pub isDigit : ℕ → Bool
+abbrev pub isDigit : ℕ → Bool
 isDigit b = leb 48 b && leb b 57
 
 unfoldable pub allDigits : List ℕ → Bool

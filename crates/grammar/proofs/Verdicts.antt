@@ -17,7 +17,7 @@ use Rattle.grammar.specs.Statement.{Statement}
 use Rattle.grammar.specs.Productions.{Placed, File, Legal}
 use Rattle.grammar.specs.Productions.File.{file}
 use Rattle.grammar.specs.Reading.{State, Last, OffsetsRead, move, moves, atEnd, close, read}
-use Rattle.grammar.specs.Reading.Last.{end, broken}
+use Rattle.grammar.specs.Reading.Last.{end, noTokenAt}
 use Rattle.counts.specs.Result.Result.{refused, done as taken}
 use Rattle.grammar.specs.Reading.State.{on, refusedAt}
 use Rattle.grammar.specs.Rows.{real, Full, MayStand, Stands, Three, FourToken, FourEnd, Five, Six, Whole, Says}
@@ -150,7 +150,7 @@ says ts z (refusedAt n p) e =
     rw (s .parts)
     (row-of (s .before) (s .token) (s .after) z (s .point) (s .begun) (s .so-far) n p
     (rw (s .refuses) at (moved (s .point) (s .begun) (s .token))) (s .refuses))
-says ts (broken p) (on q os) e = three (on-begins ts q os e, refl)
+says ts (noTokenAt why p) (on q os) e = three (on-begins ts q os e, (why, refl))
 says ts (end p) (on q []) e = four-end (on-begins ts q [] e, refl, not-empty ts q e)
 says ts (end p) (on q (o ∷ os)) e = ended ts p q o os e (isPoint q done) refl
 
@@ -183,7 +183,7 @@ module _ (ts : List Placed) (z : Last) (p : ℕ) where
   unfolding read
   three-is r =
       let s : (q : Point) × (os : List ℕ) × moves start ts ≡ on q os = begins-on ts (r .0) in
-      rw (r .1, s .2)
+      rw (r .1 .1, s .2)
 
   four-end-is : FourEnd ts z p → read ts z ≡ refused unexpected p
   unfolding read

@@ -8,13 +8,23 @@ use Rattle.counts.specs.Limits.{statements}
 use Rattle.counts.specs.Result.{Result}
 use Rattle.counts.specs.Result.Result.{refused, done as taken}
 use Rattle.counts.specs.Refusals.{noToken, unexpected, notReal, tooManyStatements}
+use Rattle.token.specs.declared.Why.{Why}
 use Rattle.grammar.specs.Grammar.{Point, step, isPoint, shape}
 use Rattle.grammar.specs.Grammar.Point.{first, between, done, dead}
 use Rattle.grammar.specs.Productions.{Placed}
 
--- what ends a file's tokens: the end of the file, or bytes that are no token
+-- what ends a file's tokens: the end of the file, or bytes that are no token, and why they are none
 pub data Last : Type 0 where
-  end broken : ℕ → Last
+  end : ℕ → Last
+  noTokenAt : Why → ℕ → Last
+
+-- "the next bytes are no token": the number that they are refused with, by why
+abbrev pub noTokenNumber : Why → ℕ
+noTokenNumber why = noToken
+
+-- "the end of file, that no legal file has after the tokens before it": the number that it is refused with
+abbrev pub endNumber : ℕ
+endNumber = unexpected
 
 -- the offsets of the statements, or a refusal
 abbrev pub OffsetsRead : Type 0
@@ -53,12 +63,12 @@ moves s (t ∷ ts) = moves (move s t) ts
 
 -- the end of the file is legal where no statement is open, and one is whole
 abbrev pub atEnd : Point → List ℕ → ℕ → OffsetsRead
-atEnd q [] p = refused unexpected p
-atEnd q (o ∷ os) p = cond (isPoint q done) (taken (o ∷ os)) (refused unexpected p)
+atEnd q [] p = refused endNumber p
+atEnd q (o ∷ os) p = cond (isPoint q done) (taken (o ∷ os)) (refused endNumber p)
 
 abbrev pub close : State → Last → OffsetsRead
 close (refusedAt n p) z = refused n p
-close (on q os) (broken p) = refused noToken p
+close (on q os) (noTokenAt why p) = refused (noTokenNumber why) p
 close (on q os) (end p) = atEnd q os p
 
 -- what the tokens ts read as, with z after them

@@ -6,10 +6,11 @@ use mathlib.Core.List.{List, [], _∷_, _++_}
 use lib.ListN.{length}
 use Rattle.counts.specs.Limits.{statements}
 use Rattle.counts.specs.Refusals.{noToken, unexpected, notReal, tooManyStatements}
+use Rattle.token.specs.declared.Why.{Why}
 use Rattle.grammar.specs.Grammar.{shape}
 use Rattle.grammar.specs.Productions.{Placed, Legal, Begins}
 use Rattle.grammar.specs.Reading.{Last, OffsetsRead}
-use Rattle.grammar.specs.Reading.Last.{end, broken}
+use Rattle.grammar.specs.Reading.Last.{end, noTokenAt}
 use Rattle.counts.specs.Result.Result.{refused, done as taken}
 
 -- some legal file has the token t after the tokens a
@@ -32,7 +33,7 @@ pub record Stands (ts : List Placed) (p : ℕ) (a : List Placed) (t : Placed) : 
 
 -- 3: the next bytes are no token; place: first of them
 abbrev pub Three : List Placed → Last → ℕ → Type 0
-Three ts z p = Begins ts × z ≡ broken p
+Three ts z p = Begins ts × ((why : Why) × z ≡ noTokenAt why p)
 
 -- 6: any token after 64 statements
 abbrev pub Six : List Placed → ℕ → Type 0

@@ -1,5 +1,5 @@
 -- A token stands at the next place that is not blank and ends after it. So `line` never runs out of steps: it is the list of the file's
--- tokens. Assumes nothing.
+-- tokens.
 use Prim.Native.Nat.{ℕ, zero, suc, _+_, _≤_, _<_}
 use mathlib.Core.Path.{_≡_, refl, sym, ap}
 use mathlib.Core.Bool.{false}
@@ -10,31 +10,32 @@ use lib.Dec.{ltb}
 use lib.ListN.{length, drop}
 use Rattle.scan.specs.Run.{blank, blankEnd}
 use Rattle.token.specs.Token.{tokenAt, nextToken}
+use Rattle.token.specs.declared.Why.{Why}
 use Rattle.token.specs.declared.Token.{Token}
 use Rattle.token.proofs.Ahead as token
 use Rattle.token.proofs.Ahead.{Span, Ahead}
-use Rattle.token.proofs.Ahead.Ahead.{the-end, a-fault, a-word, a-time-ge, a-number, a-time, a-text, a-sign, a-semicolon}
+use Rattle.token.proofs.Ahead.Ahead.{the-end, no-token as nothing-there, a-word, a-number, a-time, a-text, a-sign, a-semicolon}
 use Rattle.grammar.specs.Grammar.{Class}
 use Rattle.grammar.specs.Productions.{Said, Placed}
 use Rattle.item.specs.Tokens.{Next, at, itemOf, nextItem, Tokens, Line, lineOn, lineFrom, lineAt, line}
-use Rattle.item.specs.Tokens.Next.{item, ended, none}
+use Rattle.item.specs.Tokens.Next.{item, ended, noTokenNext}
 use Rattle.item.specs.Tokens.Tokens.{at-end, no-token, then}
 
 abbrev place-of : Next → ℕ
 place-of (item t) = t .place
 place-of (ended p) = p
-place-of (none p) = p
+place-of (noTokenNext why p) = p
 
 abbrev end-of : Next → ℕ
 end-of (item t) = t .end
 end-of (ended p) = p
-end-of (none p) = p
+end-of (noTokenNext why p) = p
 
 ended≢item : {p : ℕ} {t : Placed} → ended p ≡ item t → ⊥
 ended≢item e = let z : _≡_ {A = ℕ} 0 1 = cc in omega arith
 
-none≢item : {p : ℕ} {t : Placed} → none p ≡ item t → ⊥
-none≢item e = let z : _≡_ {A = ℕ} 0 1 = cc in omega arith
+no-token≢item : {why : Why} {p : ℕ} {t : Placed} → noTokenNext why p ≡ item t → ⊥
+no-token≢item e = let z : _≡_ {A = ℕ} 0 1 = cc in omega arith
 
 item-end : {i a : ℕ} {c : Class} {x : Said} {u : Placed} (s : List ℕ) → at c i a x ≡ item u → Span s i a → (u .place ≡ i) × Span s i (u .end)
 item-end {i} {a} {c} {x} {u} s e l =
@@ -45,9 +46,8 @@ item-end {i} {a} {c} {x} {u} s e l =
 ahead-item : (s : List ℕ) (i : ℕ) (k : Token) → Ahead s i k → (t : Placed) → itemOf s k ≡ item t → (t .place ≡ i) × Span s i (t .end)
 unfolding itemOf
 ahead-item s i k (the-end l) t e = absurd (ended≢item e)
-ahead-item s i k (a-fault l) t e = absurd (none≢item e)
+ahead-item s i k (nothing-there l) t e = absurd (no-token≢item e)
 ahead-item s i k (a-word l) t e = item-end s e l
-ahead-item s i k (a-time-ge l) t e = item-end s e l
 ahead-item s i k (a-number l n) t e = item-end s e l
 ahead-item s i k (a-time l) t e = item-end s e l
 ahead-item s i k (a-text l) t e = item-end s e l
@@ -57,16 +57,15 @@ ahead-item s i k (a-semicolon l) t e = item-end s e l
 item≢ended : {p : ℕ} {t : Placed} → item t ≡ ended p → ⊥
 item≢ended e = ended≢item (sym e)
 
-none≢ended : {p q : ℕ} → none q ≡ ended p → ⊥
-none≢ended e = let z : _≡_ {A = ℕ} 0 1 = cc in omega arith
+no-token≢ended : {why : Why} {p q : ℕ} → noTokenNext why q ≡ ended p → ⊥
+no-token≢ended e = let z : _≡_ {A = ℕ} 0 1 = cc in omega arith
 
 -- where the end stands
 pub ahead-ended : (s : List ℕ) (i : ℕ) (k : Token) → Ahead s i k → (p : ℕ) → itemOf s k ≡ ended p → (p ≡ i) × (length s ≤ i)
 unfolding itemOf
 ahead-ended s i k (the-end l) p e = (cc, l)
-ahead-ended s i k (a-fault l) p e = absurd (none≢ended e)
+ahead-ended s i k (nothing-there l) p e = absurd (no-token≢ended e)
 ahead-ended s i k (a-word l) p e = absurd (item≢ended e)
-ahead-ended s i k (a-time-ge l) p e = absurd (item≢ended e)
 ahead-ended s i k (a-number l n) p e = absurd (item≢ended e)
 ahead-ended s i k (a-time l) p e = absurd (item≢ended e)
 ahead-ended s i k (a-text l) p e = absurd (item≢ended e)
@@ -89,7 +88,7 @@ nothing-past s i t l e =
 -- the steps suffice
 on-item : (s : List ℕ) (i : ℕ) (k : ℕ → Line) → ((t : Placed) → nextItem s i ≡ item t → Tokens s (t .end) (k (t .end) .tokens) (k (t .end) .last)) → (x : Next) → nextItem s i ≡ x → Tokens s i (lineOn x k .tokens) (lineOn x k .last)
 on-item s i k later (ended p) e = at-end e
-on-item s i k later (none p) e = no-token e
+on-item s i k later (noTokenNext why p) e = no-token e
 on-item s i k later (item t) e = then e (later t e)
 
 enough : (n : ℕ) (s : List ℕ) (i : ℕ) → length s ≤ i + n → Tokens s i (lineFrom (suc n) s i .tokens) (lineFrom (suc n) s i .last)

@@ -1,4 +1,4 @@
--- A number token stands exactly where a numeral of at most 16 digits ends its numeric run: so what it reads as is small. Assumes nothing.
+-- A number token stands exactly where a numeral of at most 16 digits ends its numeric run: so what it reads as is small.
 use Prim.Native.Nat.{ℕ, suc, _+_, _-_, _^_, _≤_, _<_}
 use mathlib.Core.Path.{_≡_, refl, ap, _∙_}
 use mathlib.Core.Bool.{Bool, true, false, cond, _&&_}
@@ -14,20 +14,20 @@ use lib.Seq.{getD-drop}
 use Rattle.laws.proofs.Choose.{and-left, and-right, and-both}
 use Rattle.field.specs.Part.{part}
 use Rattle.field.proofs.Parts.{part-cons, part-join, length-part-in}
-use Rattle.decimal.specs.Digits.{allDigits, isDigit as isDigitByte}
+use Rattle.decimal.specs.Digits.{allDigits}
 use Rattle.number.specs.Number.{unsigned, Numeral, numberOf}
 use Rattle.number.proofs.Numerals.{numeral-small}
 use Rattle.scan.specs.Kinds.{isDigit, isNumericByte}
 use Rattle.scan.specs.Run.{run, runEnd, blankEnd}
-use Rattle.scan.proofs.Runs.{run-passes}
+use Rattle.scan.proofs.Runs.{run-passes, run-some}
 use Rattle.token.specs.Token.{isNumberAt, tokenAt, nextToken}
 use Rattle.token.specs.declared.Token.the-variants.{Number}
-use Rattle.token.proofs.Ahead.{Span, Figures, figures, in-range, past}
+use Rattle.token.proofs.Ahead.{Span, Figures, figures, in-range}
 use Rattle.item.specs.Numbers.{NumberFrom}
 use Rattle.item.proofs.NumeralTokens.{numeral-token}
 
 all-from : (ds : List ℕ) → ((b : ℕ) → List·Memᴰ b ds → isDigit b ≡ true) → allDigits ds ≡ true
-unfolding allDigits isDigitByte
+unfolding allDigits
 all-from [] h = refl
 all-from (d ∷ ds) h = and-both (h d (List·Memᴰ·head refl)) (all-from ds (λ b m. h b (List·Memᴰ·tail m)))
 
@@ -50,7 +50,7 @@ module _ (s : List ℕ) where
       rw e (all-from _ (run-passes isDigit (drop d s)))
 
   some-digits : (d : ℕ) → isDigit (getD s d 0) ≡ true → d < runEnd isDigit s d
-  some-digits d h = past s d isDigit (in-range s d isDigit d refl h) h
+  some-digits d h = run-some isDigit s d (in-range s d isDigit d refl h) h
 
   -- without a point
   whole-number : (d e : ℕ) → isDigit (getD s d 0) ≡ true → e ≤ length s → runEnd isDigit s d ≡ e → e ≤ d + 16 → Some (part s d (e - d)) false

@@ -1,4 +1,4 @@
--- Where a numeral ends its numeric run, it is the token that stands there. Assumes nothing.
+-- Where a numeral ends its numeric run, it is the token that stands there.
 use Prim.Native.Nat.{ℕ, zero, suc, _+_, _-_, _≤_, _<_}
 use mathlib.Core.Path.{_≡_, refl, sym, ap, _∙_}
 use mathlib.Core.Bool.{Bool, true, false, true≢false, _&&_}
@@ -13,7 +13,7 @@ use lib.Seq.{drop-cons, drop-drop, drop-append-seam, getD-drop}
 use Rattle.laws.proofs.Choose.{and-left, and-right}
 use Rattle.field.specs.Part.{part}
 use Rattle.field.proofs.Parts.{length-part, length-part-in, is-part}
-use Rattle.decimal.specs.Digits.{allDigits, isDigit as isDigitByte}
+use Rattle.decimal.specs.Digits.{allDigits}
 use Rattle.number.specs.Number.{unsigned, spelled, Numeral}
 use Rattle.scan.specs.Kinds.{isDigit, isLetter, isNumericByte}
 use Rattle.scan.specs.Run.{run, runEnd}
@@ -28,7 +28,7 @@ digit-range : (b : ℕ) → isDigit b ≡ true → (48 ≤ b) × (b ≤ 57)
 digit-range b h = (leb-true 48 b (and-left (leb 48 b) (leb b 57) h), leb-true b 57 (and-right (leb 48 b) (leb b 57) h))
 
 digit-each : (ds : List ℕ) → allDigits ds ≡ true → (b : ℕ) → List·Memᴰ b ds → isDigit b ≡ true
-unfolding allDigits isDigitByte
+unfolding allDigits
 digit-each [] h b m = absurd (List·Memᴰ·not-nil m)
 digit-each (d ∷ ds) h b m =
     ⊎-elim (λ e. rw e (and-left (isDigit d) (allDigits ds) h)) (digit-each ds (and-right (isDigit d) (allDigits ds) h) b) (List·Memᴰ·cases-cons m)

@@ -1,5 +1,5 @@
 -- What stands in a file stands in the file with one byte more in front, one place later: so the bytes of a file from a place on read, from
--- there, as the file does. Assumes nothing.
+-- there, as the file does.
 use Prim.Native.Nat.{ℕ, suc, compare·suc-suc}
 use mathlib.Core.Path.{_≡_, refl, _∙_, ap}
 use mathlib.Core.Bool.{Bool, true, false, cond}
@@ -7,20 +7,23 @@ use mathlib.Core.List.{List, _∷_}
 use native.Mathlib.Nat.{suc-add, suc-sub-suc}
 use lib.ListN.{drop}
 use Rattle.field.specs.Part.{part}
-use Rattle.field.specs.Bytes.{hasAt}
-use Rattle.scan.specs.Run.{run, runEnd, blank, blankEnd}
-use Rattle.token.specs.Token.{wordAt, textAt, isTextAt, isTimeAt, isNumberAt, shapedAt, numericAt, signAt, tokenAt, nextToken}
+use Rattle.scan.specs.Run.{blank, blankEnd}
+use Rattle.scan.proofs.Runs.{run-up}
+use Rattle.word.specs.declared.WordRead.{WordRead}
+use Rattle.word.specs.declared.WordRead.the-variants.{Is, NoWord}
+use Rattle.word.proofs.Words as words
+use Rattle.word.proofs.Words.{word-up}
+use Rattle.token.specs.Token.{wordToken, stringAt, isTextAt, isTimeAt, isNumberAt, shapedAt, numericAt, signAt, tokenAt, nextToken}
 use Rattle.token.specs.declared.Token.{Token}
-use Rattle.token.specs.declared.Token.the-variants.{End, Fault, Word, TimeGe, Number, Time, Text, Sign, Semicolon}
-use Rattle.item.specs.Tokens.{Next, at, abortClass, clauseClass, wordClass, numberClass, dateNumber, timeNumber, itemOf, nextItem}
-use Rattle.item.specs.Tokens.Next.{item, ended, none}
+use Rattle.token.specs.declared.Token.the-variants.{End, NoToken, Word, Number, Time, Text, Sign, Semicolon}
+use Rattle.item.specs.Tokens.{Next, at, numberClass, dateNumber, timeNumber, itemOf, nextItem}
+use Rattle.item.specs.Tokens.Next.{item, ended, noTokenNext}
 
 -- the same token, one byte later
 abbrev pub up : Token → Token
 up (End p) = End (suc p)
-up (Fault w p) = Fault w (suc p)
-up (Word a b) = Word (suc a) (suc b)
-up (TimeGe a b) = TimeGe (suc a) (suc b)
+up (NoToken w p) = NoToken w (suc p)
+up (Word w a b) = Word w (suc a) (suc b)
 up (Number a b) = Number (suc a) (suc b)
 up (Time a b) = Time (suc a) (suc b)
 up (Text a b) = Text (suc a) (suc b)
@@ -30,27 +33,19 @@ up (Semicolon a b) = Semicolon (suc a) (suc b)
 abbrev pub upItem : Next → Next
 upItem (item t) = at (t .class) (suc (t .place)) (suc (t .end)) (t .said)
 upItem (ended p) = ended (suc p)
-upItem (none p) = none (suc p)
+upItem (noTokenNext why p) = noTokenNext why (suc p)
+
+of-word : (i : ℕ) (r : WordRead) → wordToken (suc i) (words.up r) ≡ up (wordToken i r)
+of-word i (Is w e) = refl
+of-word i NoWord = refl
 
 up-cond : (b : Bool) (x y : Token) → up (cond b x y) ≡ cond b (up x) (up y)
 up-cond true x y = refl
 up-cond false x y = refl
 
 module _ (x : ℕ) (v : List ℕ) where
-  run-up : (p : ℕ → Bool) (i : ℕ) → runEnd p (x ∷ v) (suc i) ≡ suc (runEnd p v i)
-  unfolding runEnd
-  run-up p i = suc-add i (run p (drop i v))
-
-  has-up : (i : ℕ) (w : List ℕ) → hasAt (x ∷ v) (suc i) w ≡ hasAt v i w
-  unfolding hasAt part
-  has-up i w = refl
-
-  word-up : (i : ℕ) → wordAt (x ∷ v) (suc i) ≡ up (wordAt v i)
-  unfolding wordAt
-  word-up i = simp (run-up, has-up, suc-add, compare·suc-suc, up-cond)
-
-  text-up : (i : ℕ) → textAt (x ∷ v) (suc i) ≡ up (textAt v i)
-  unfolding textAt isTextAt
+  text-up : (i : ℕ) → stringAt (x ∷ v) (suc i) ≡ up (stringAt v i)
+  unfolding stringAt isTextAt
   text-up i = simp (run-up, suc-add, suc-sub-suc, compare·suc-suc, up-cond)
 
   is-time-up : (i e : ℕ) → isTimeAt (x ∷ v) (suc i) (suc e) ≡ isTimeAt v i e
@@ -75,7 +70,7 @@ module _ (x : ℕ) (v : List ℕ) where
 
   token-up : (i : ℕ) → tokenAt (x ∷ v) (suc i) ≡ up (tokenAt v i)
   unfolding tokenAt
-  token-up i = simp (word-up, numeric-up, text-up, sign-up, compare·suc-suc, up-cond)
+  token-up i = simp (word-up, of-word, numeric-up, text-up, sign-up, compare·suc-suc, up-cond)
 
   blank-up : (i : ℕ) → blankEnd false (x ∷ v) (suc i) ≡ suc (blankEnd false v i)
   unfolding blankEnd
@@ -88,10 +83,6 @@ module _ (x : ℕ) (v : List ℕ) where
   pub part-up : (i w : ℕ) → part (x ∷ v) (suc i) w ≡ part v i w
   unfolding part
   part-up i w = refl
-
-  pub word-class-up : (a b : ℕ) → wordClass (x ∷ v) (suc a) (suc b) ≡ wordClass v a b
-  unfolding wordClass clauseClass abortClass
-  word-class-up a b = simp (suc-sub-suc, has-up)
 
   pub number-class-up : (a b : ℕ) → numberClass (x ∷ v) (suc a) (suc b) ≡ numberClass v a b
   unfolding numberClass
@@ -108,9 +99,8 @@ module _ (x : ℕ) (v : List ℕ) where
   item-up : (k : Token) → itemOf (x ∷ v) (up k) ≡ upItem (itemOf v k)
   unfolding itemOf
   item-up (End p) = refl
-  item-up (Fault w p) = refl
-  item-up (Word a b) = rw word-class-up
-  item-up (TimeGe a b) = refl
+  item-up (NoToken w p) = refl
+  item-up (Word w a b) = refl
   item-up (Number a b) = simp (number-class-up, date-up, suc-sub-suc, part-up)
   item-up (Time a b) = rw time-up
   item-up (Text a b) = refl

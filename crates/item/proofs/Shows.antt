@@ -1,28 +1,49 @@
--- The item that code has shows what stands next; and the bytes of a file from a place on show it as the file does. Assumes nothing.
-use Prim.Native.Nat.{ℕ, zero, suc, _+_, _-_, _≤_}
+-- The item that code has shows what stands next; and the bytes of a file from a place on show it as the file does.
+use Prim.Native.Nat.{ℕ, zero, suc, _+_, _-_, _≤_, _<_}
 use mathlib.Core.Path.{_≡_, refl, sym, _∙_, ap}
+use mathlib.Core.Bool.{false}
 use mathlib.Core.List.{List, [], _∷_}
 use native.Mathlib.Omega.{arith}
 use native.Mathlib.Nat.{add-suc, suc-add, suc-sub-suc}
+use borrow.Author.Tests.{ne-eqb}
+use lib.Dec.{eqb}
 use lib.ListN.{length, drop}
+use Rattle.counts.specs.Refusals.{unexpected}
 use Rattle.token.specs.Token.{nextToken}
+use Rattle.token.specs.declared.Why.{Why}
+use Rattle.token.specs.declared.Why.the-variants.{Stray, OpenString, BrokenString, Misshapen}
 use Rattle.token.specs.declared.Token.{Token}
-use Rattle.token.specs.declared.Token.the-variants.{End, Fault, Word, TimeGe, Number, Time, Text, Sign, Semicolon}
+use Rattle.token.specs.declared.Token.the-variants.{End, NoToken, Word, Number, Time, Text, Sign, Semicolon}
 use Rattle.token.proofs.Ahead.{Lies, startOf, endOf, lies}
-use Rattle.grammar.specs.Grammar.{classNo}
+use Rattle.grammar.specs.Grammar.{Class, classNo}
+use Rattle.grammar.specs.Reading.{noTokenNumber}
+use Rattle.grammar.proofs.Apart.{class-below}
 use Rattle.grammar.specs.Productions.{Placed}
 use Rattle.item.specs.Tokens.{Next, itemOf, nextItem}
-use Rattle.item.specs.Tokens.Next.{item, ended, none}
-use Rattle.item.specs.Items.{endNo, noneNo, numbered, itemAt}
+use Rattle.item.specs.Tokens.Next.{item, ended, noTokenNext}
+use Rattle.item.specs.Items.{endNo, noTokenNo, refusalNo, numbered, itemAt}
 use Rattle.item.specs.declared.Item.{Item}
 use Rattle.item.proofs.Standing.{next-of}
-use Rattle.item.proofs.Shifted.{up, next-up, part-up, word-class-up, number-class-up, date-up, time-up}
+use Rattle.item.proofs.Shifted.{up, next-up, part-up, number-class-up, date-up, time-up}
 
 -- an item's numbers are those of what stands next
 pub data Shows (t : Item) : Next → Type 0 where
   a-token : {u : Placed} → t .class ≡ classNo (u .class) → t .place ≡ u .place → t .next ≡ u .end → Shows t (item u)
   the-end : {p : ℕ} → t .class ≡ endNo → t .place ≡ p → Shows t (ended p)
-  no-token : {p : ℕ} → t .class ≡ noneNo → t .place ≡ p → Shows t (none p)
+  no-token : {why : Why} {p : ℕ} → t .class ≡ noTokenNo why → t .place ≡ p → Shows t (noTokenNext why p)
+
+-- the numbers of no token are above that of the end, and those of the classes below
+pub no-token-numbers : (why : Why) → (22 < noTokenNo why) × (refusalNo (noTokenNo why) ≡ noTokenNumber why)
+no-token-numbers Stray = (omega arith, refl)
+no-token-numbers OpenString = (omega arith, refl)
+no-token-numbers BrokenString = (omega arith, refl)
+no-token-numbers Misshapen = (omega arith, refl)
+
+pub token-number : (c : Class) → refusalNo (classNo c) ≡ unexpected
+token-number c = rw (other 22 (omega arith), other 23 (omega arith), other 24 (omega arith), other 25 (omega arith), other 26 (omega arith))
+  where
+    other : (n : ℕ) → 22 ≤ n → eqb (classNo c) n ≡ false
+    other n l = ne-eqb (classNo c) n (λ e. omega (arith, class-below c))
 
 none-before : (n : ℕ) → 0 + n ≡ n
 none-before n = omega arith
@@ -30,9 +51,8 @@ none-before n = omega arith
 by-token : (s : List ℕ) (k : Token) → Shows (numbered 0 s k) (itemOf s k)
 unfolding numbered itemOf
 by-token s (End p) = the-end refl (none-before p)
-by-token s (Fault w p) = no-token refl (none-before p)
-by-token s (Word a b) = a-token refl (none-before a) (none-before b)
-by-token s (TimeGe a b) = a-token refl (none-before a) (none-before b)
+by-token s (NoToken w p) = no-token refl (none-before p)
+by-token s (Word w a b) = a-token refl (none-before a) (none-before b)
 by-token s (Number a b) = a-token refl (none-before a) (none-before b)
 by-token s (Time a b) = a-token refl (none-before a) (none-before b)
 by-token s (Text a b) = a-token refl (none-before a) (none-before b)
@@ -57,9 +77,8 @@ module _ (x : ℕ) (v : List ℕ) (base : ℕ) where
   fewer : (k : Token) → numbered base (x ∷ v) (up k) ≡ numbered (suc base) v k
   unfolding numbered
   fewer (End p) = simp (add-suc, suc-add, suc-sub-suc)
-  fewer (Fault w p) = simp (add-suc, suc-add, suc-sub-suc)
-  fewer (Word a b) = simp (add-suc, suc-add, suc-sub-suc, word-class-up)
-  fewer (TimeGe a b) = simp (add-suc, suc-add, suc-sub-suc)
+  fewer (NoToken w p) = simp (add-suc, suc-add, suc-sub-suc)
+  fewer (Word w a b) = simp (add-suc, suc-add, suc-sub-suc)
   fewer (Number a b) = simp (add-suc, suc-add, suc-sub-suc, number-class-up, date-up, part-up)
   fewer (Time a b) = simp (add-suc, suc-add, suc-sub-suc, time-up)
   fewer (Text a b) = simp (add-suc, suc-add, suc-sub-suc)

@@ -1,4 +1,4 @@
--- Every list of classes is the classes of some file's tokens: so what may stand by its tokens may stand in a file. Assumes nothing.
+-- Every list of classes is the classes of some file's tokens: so what may stand by its tokens may stand in a file.
 use Prim.Native.Nat.{ℕ, suc, _<_}
 use mathlib.Core.Path.{_≡_, refl, sym, _∙_, ap, subst}
 use mathlib.Core.Bool.{false, cond, _||_}
@@ -9,21 +9,23 @@ use borrow.Author.Tests.{lt-ltb}
 use lib.Dec.{eqb}
 use lib.ListN.{length, getD, length-append}
 use Rattle.calendar.specs.Calendar.{realDate, realTime, monthLength, februaryLength}
-use Rattle.decimal.specs.Digits.{value, isDigit as isDigitByte, allDigits}
+use Rattle.decimal.specs.Digits.{value, allDigits}
 use Rattle.decimal.specs.Read.{digitsRead}
 use Rattle.field.specs.Part.{part}
 use Rattle.field.specs.Bytes.{ascii, same, hasAt}
 use Rattle.scan.specs.Kinds.{isDigit, isLetter}
 use Rattle.scan.specs.Run.{run, runEnd, blank, blankEnd}
-use Rattle.token.specs.Token.{wordAt, textAt, isTextAt, isTimeAt, isNumberAt, shapedAt, numericAt, signAt, tokenAt, nextToken}
+use Rattle.word.specs.Word.{whichWord, wordRead}
+use Rattle.token.specs.Token.{wordToken, stringAt, isTextAt, isTimeAt, isNumberAt, shapedAt, numericAt, signAt, tokenAt, nextToken}
+use Rattle.token.specs.declared.Why.{Why}
 use Rattle.token.specs.declared.Token.{Token}
 use Rattle.grammar.specs.Grammar.{Class}
 use Rattle.grammar.specs.Grammar.Class.{JOB, RESPONSE, UPLOAD, DOWNLOAD, GETINFO, ABORT, REPORT, EVENT, START, ACTIVE, IMMEDIATE, reserved, name, TIME≥, number, date, unrealDate, time, unrealTime, string, operator, semicolon}
 use Rattle.grammar.specs.Reading.{Last}
-use Rattle.grammar.specs.Reading.Last.{end, broken}
+use Rattle.grammar.specs.Reading.Last.{end, noTokenAt}
 use Rattle.grammar.specs.Productions.{Said, Placed, classes, Legal, Begins}
 use Rattle.grammar.proofs.Relabel.{relabel}
-use Rattle.item.specs.Tokens.{at, wordClass, clauseClass, abortClass, numberClass, timeNumber, itemOf, nextItem, Tokens}
+use Rattle.item.specs.Tokens.{at, numberClass, timeNumber, itemOf, nextItem, Tokens}
 use Rattle.item.specs.Files.{InFile}
 use Rattle.item.specs.Tokens.Next.{item, ended}
 use Rattle.item.specs.Tokens.Tokens.{at-end, no-token, then}
@@ -43,13 +45,13 @@ first-is : (s : List ℕ) (i : ℕ) (c : Class) (p b : ℕ) (x : Said) (cs : Lis
 first-is s i c p b x cs e r =
     record { tokens = record { class = c; place = p; end = b; said = x } ∷ r .tokens; place = r .place; read = then e (r .read); are = ap (λ (k : List Class). c ∷ k) (r .are) }
 
-broken≢end : {p q : ℕ} → broken p ≡ end q → ⊥
-broken≢end e = let z : _≡_ {A = ℕ} 0 1 = cc in omega arith
+no-token≢end : {why : Why} {p q : ℕ} → noTokenAt why p ≡ end q → ⊥
+no-token≢end e = let z : _≡_ {A = ℕ} 0 1 = cc in omega arith
 
 -- a byte more in front
 tokens-up : (x : ℕ) {v : List ℕ} {i : ℕ} {ts : List Placed} {z : Last} → Tokens v i ts z → (p : ℕ) → z ≡ end p → Spelled (x ∷ v) (suc i) (classes ts)
 tokens-up x {v} {i} (at-end {p = q} e) p z = at-the-end (x ∷ v) (suc i) (suc q) (next-item-up x v i (ended q) e)
-tokens-up x (no-token e) p z = absurd (broken≢end z)
+tokens-up x (no-token e) p z = absurd (no-token≢end z)
 tokens-up x {v} {i} (then {t = t} {ts = ts} e r) p z =
     first-is (x ∷ v) (suc i) (t .class) (suc (t .place)) (suc (t .end)) (t .said) (classes ts) (next-item-up x v i (item t) e) (tokens-up x r p z)
 
@@ -96,8 +98,8 @@ text cs = 32 ∷ rest cs
 -- the token at i, where bytes stand there
 tokenIn : List ℕ → ℕ → Token
 tokenIn s i =
-    cond (isLetter (getD s i 0)) (wordAt s i)
-    (cond (isDigit (getD s i 0) || eqb (getD s i 0) 45) (numericAt s i) (cond (eqb (getD s i 0) 34) (textAt s i) (signAt s i)))
+    cond (isLetter (getD s i 0)) (wordToken i (wordRead s i))
+    (cond (isDigit (getD s i 0) || eqb (getD s i 0) 45) (numericAt s i) (cond (eqb (getD s i 0) 34) (stringAt s i) (signAt s i)))
 
 in-file : (s : List ℕ) (i : ℕ) → i < length s → tokenAt s i ≡ tokenIn s i
 unfolding tokenAt tokenIn
@@ -107,7 +109,7 @@ in-file s i l = rw (lt-ltb _ _ l)
 first-token : (c : Class) (r : List ℕ)
     → (blankEnd false (32 ∷ (spell c ++ (32 ∷ r))) 0 ≡ 1)
     × ((x : Said) × itemOf (32 ∷ (spell c ++ (32 ∷ r))) (tokenIn (32 ∷ (spell c ++ (32 ∷ r))) 1) ≡ at c 1 (suc (length (spell c))) x)
-unfolding tokenIn itemOf wordClass clauseClass abortClass numberClass timeNumber digitsRead value isDigitByte allDigits part realDate realTime monthLength februaryLength wordAt textAt isTextAt isTimeAt isNumberAt shapedAt numericAt signAt run runEnd same hasAt blankEnd blank
+unfolding tokenIn itemOf whichWord wordRead numberClass timeNumber digitsRead value allDigits part realDate realTime monthLength februaryLength stringAt isTextAt isTimeAt isNumberAt shapedAt numericAt signAt run runEnd same hasAt blankEnd blank
 first-token JOB r = (refl, (_, refl))
 first-token RESPONSE r = (refl, (_, refl))
 first-token UPLOAD r = (refl, (_, refl))

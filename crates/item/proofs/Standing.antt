@@ -1,11 +1,11 @@
--- An item from its token: what `next_item` answers, whatever the token. Assumes nothing.
+-- An item from its token: what `next_item` answers, whatever the token.
 use Prim.Native.Nat.{ℕ, _+_, _-_}
 use mathlib.Core.Path.{_≡_, refl, sym, _∙_, ap}
 use mathlib.Core.List.{List}
 use native.Mathlib.Omega.{arith}
 use Rattle.token.specs.Token.{nextToken}
 use Rattle.token.specs.declared.Token.{Token}
-use Rattle.token.specs.declared.Token.the-variants.{End, Fault, Word, TimeGe, Number, Time, Text, Sign, Semicolon}
+use Rattle.token.specs.declared.Token.the-variants.{End, NoToken, Word, Number, Time, Text, Sign, Semicolon}
 use Rattle.token.proofs.Ahead.{startOf, endOf, Lies, lies}
 use Rattle.item.specs.Items.{numbered, itemAt, Seen, Stood}
 use Rattle.item.specs.declared.Item.{Item}
@@ -13,9 +13,8 @@ use Rattle.item.specs.declared.Item.{Item}
 pub next-of : (base : ℕ) (s : List ℕ) (t : Token) → numbered base s t .next ≡ base + endOf t
 unfolding numbered
 next-of base s (End p) = refl
-next-of base s (Fault w p) = refl
-next-of base s (Word a b) = refl
-next-of base s (TimeGe a b) = refl
+next-of base s (NoToken w p) = refl
+next-of base s (Word w a b) = refl
 next-of base s (Number a b) = refl
 next-of base s (Time a b) = refl
 next-of base s (Text a b) = refl

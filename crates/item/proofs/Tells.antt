@@ -1,4 +1,4 @@
--- The item that code has tells all that the token says. Assumes nothing.
+-- The item that code has tells all that the token says.
 use Prim.Native.Nat.{ℕ, _+_, _-_, _≤_}
 use mathlib.Core.Path.{_≡_, refl, subst}
 use mathlib.Core.List.{List}
@@ -7,16 +7,16 @@ use Rattle.token.specs.Token.{nextToken}
 use Rattle.token.specs.declared.Operator.{Operator}
 use Rattle.token.specs.declared.Operator.the-variants.{Equal}
 use Rattle.token.specs.declared.Token.{Token}
-use Rattle.token.specs.declared.Token.the-variants.{End, Fault, Word, TimeGe, Number, Time, Text, Sign, Semicolon}
+use Rattle.token.specs.declared.Token.the-variants.{End, NoToken, Word, Number, Time, Text, Sign, Semicolon}
 use Rattle.token.proofs.Ahead.{Lies, startOf, endOf, lies}
 use Rattle.grammar.specs.Grammar.{Class, classNo}
-use Rattle.grammar.specs.Grammar.Class.{TIME≥, string, operator, semicolon}
+use Rattle.grammar.specs.Grammar.Class.{string, operator, semicolon}
 use Rattle.grammar.specs.Productions.{Is, Placed}
 use Rattle.field.specs.Part.{part}
 use Rattle.number.specs.Number.{numberOf}
 use Rattle.number.specs.declared.Number.{Number as NumberRead}
 use Rattle.item.specs.Tokens.{Next, wordClass, numberClass, dateNumber, timeClass, timeNumber, paperNumber, paperOperator, itemOf, nextItem}
-use Rattle.item.specs.Tokens.Next.{item, ended, none}
+use Rattle.item.specs.Tokens.Next.{item, ended, noTokenNext}
 use Rattle.item.specs.Items.{zero, madeOf, numbered, itemAt}
 use Rattle.item.specs.declared.Item.{Item}
 
@@ -32,7 +32,7 @@ pub record Tells (t : Item) (u : Placed) : Type 0 where
 abbrev Told : Item → Next → Type 0
 Told t (item u) = Tells t u
 Told t (ended p) = Unit {0}
-Told t (none p) = Unit {0}
+Told t (noTokenNext why p) = Unit {0}
 
 made-tells : (c : Class) (a b v : ℕ) (n : NumberRead) (o : Operator) → a ≤ b
     → Tells (madeOf 0 (classNo c) a b v n o) (record { class = c; place = a; end = b; said = record { moment = v; number = paperNumber n; operator = paperOperator o } })
@@ -41,9 +41,8 @@ made-tells c a b v n o l = record { class = refl; place = omega arith; spans = o
 by-token : (s : List ℕ) (k : Token) → startOf k ≤ endOf k → Told (numbered 0 s k) (itemOf s k)
 unfolding numbered itemOf
 by-token s (End p) l = tt
-by-token s (Fault w p) l = tt
-by-token s (Word a b) l = made-tells (wordClass s a b) a b 0 zero Equal l
-by-token s (TimeGe a b) l = made-tells TIME≥ a b 0 zero Equal l
+by-token s (NoToken w p) l = tt
+by-token s (Word w a b) l = made-tells (wordClass w) a b 0 zero Equal l
 by-token s (Number a b) l = made-tells (numberClass s a b) a b (dateNumber s a b) (numberOf (part s a (b - a))) Equal l
 by-token s (Time a b) l = made-tells (timeClass s a) a b (timeNumber s a) zero Equal l
 by-token s (Text a b) l = made-tells string a b 0 zero Equal l

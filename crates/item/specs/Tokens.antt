@@ -1,6 +1,6 @@
 -- The tokens of a job file as the grammar sees them: each with its class, its place and end, and what it says (document 01, "Bytes and tokens", "The job grammar").
 use Prim.Native.Nat.{ℕ, zero, suc, _+_, _-_, _*_}
-use mathlib.Core.Bool.{Bool, cond, _||_}
+use mathlib.Core.Bool.{cond}
 use mathlib.Core.Path.{_≡_}
 use mathlib.Core.List.{List, [], _∷_}
 use lib.Dec.{eqb}
@@ -10,46 +10,41 @@ use Rattle.decimal.specs.Read.{digitsRead}
 use Rattle.decimal.specs.declared.DigitsRead.{DigitsRead}
 use Rattle.decimal.specs.declared.DigitsRead.the-variants.{Value, NotDigits}
 use Rattle.field.specs.Part.{part}
-use Rattle.field.specs.Bytes.{ascii}
-use Rattle.scan.specs.Run.{isWordAt}
+use Rattle.word.specs.declared.Word.{Word}
+use Rattle.word.specs.declared.Word.the-variants.{Job, Response, Upload, Download, GetInfo, Abort, Report, Event, Start, Stop, Active, Time as TimeWord, Immediate, Never, TimeGe, Name}
 use Rattle.token.specs.Token.{nextToken}
 use Rattle.number.specs.Number.{numberOf}
 use Rattle.number.specs.declared.Number.{Number as NumberRead}
 use Rattle.token.specs.declared.Operator.{Operator}
 use Rattle.token.specs.declared.Operator.the-variants.{Equal, NotEqual, Above, Below, AtLeast, AtMost}
+use Rattle.token.specs.declared.Why.{Why}
 use Rattle.token.specs.declared.Token.{Token}
-use Rattle.token.specs.declared.Token.the-variants.{End, Fault, Word, TimeGe, Number, Time, Text, Sign, Semicolon}
+use Rattle.token.specs.declared.Token.the-variants.{End, NoToken, Word as AWord, Number, Time, Text, Sign, Semicolon}
 use Rattle.grammar.specs.Grammar.{Class}
 use Rattle.grammar.specs.Grammar.Class.{JOB, RESPONSE, UPLOAD, DOWNLOAD, GETINFO, ABORT, REPORT, EVENT, START, ACTIVE, IMMEDIATE, reserved, name, TIME≥, number, date, unrealDate, time, unrealTime, string, operator, semicolon}
 use Rattle.grammar.specs.Statement as read
 use Rattle.grammar.specs.Productions.{Said, unsaid, Placed}
 use Rattle.grammar.specs.Reading.{Last}
-use Rattle.grammar.specs.Reading.Last.{end, broken}
+use Rattle.grammar.specs.Reading.Last.{end, noTokenAt}
 
--- "Reserved: JOB RESPONSE UPLOAD DOWNLOAD GETINFO ABORT REPORT EVENT START STOP ACTIVE TIME IMMEDIATE NEVER. A name is a word that isn't
--- reserved.": the word from a to b
-abbrev pub isOther : List ℕ → ℕ → ℕ → Bool
-isOther s a b = isWordAt s a b (ascii "STOP") || isWordAt s a b (ascii "TIME") || isWordAt s a b (ascii "NEVER")
-
-unfoldable pub abortClass : List ℕ → ℕ → ℕ → Class
-abortClass s a b =
-    cond (isWordAt s a b (ascii "ABORT")) ABORT
-    (cond (isWordAt s a b (ascii "REPORT")) REPORT
-    (cond (isWordAt s a b (ascii "EVENT")) EVENT (cond (isOther s a b) reserved name)))
-
-unfoldable pub clauseClass : List ℕ → ℕ → ℕ → Class
-clauseClass s a b =
-    cond (isWordAt s a b (ascii "START")) START
-    (cond (isWordAt s a b (ascii "ACTIVE")) ACTIVE
-    (cond (isWordAt s a b (ascii "IMMEDIATE")) IMMEDIATE
-    (cond (isWordAt s a b (ascii "RESPONSE")) RESPONSE (abortClass s a b))))
-
-unfoldable pub wordClass : List ℕ → ℕ → ℕ → Class
-wordClass s a b =
-    cond (isWordAt s a b (ascii "JOB")) JOB
-    (cond (isWordAt s a b (ascii "UPLOAD")) UPLOAD
-    (cond (isWordAt s a b (ascii "DOWNLOAD")) DOWNLOAD
-    (cond (isWordAt s a b (ascii "GETINFO")) GETINFO (clauseClass s a b))))
+-- the class of a word: STOP, TIME and NEVER stand in no production
+abbrev pub wordClass : Word → Class
+wordClass Job = JOB
+wordClass Response = RESPONSE
+wordClass Upload = UPLOAD
+wordClass Download = DOWNLOAD
+wordClass GetInfo = GETINFO
+wordClass Abort = ABORT
+wordClass Report = REPORT
+wordClass Event = EVENT
+wordClass Start = START
+wordClass Stop = reserved
+wordClass Active = ACTIVE
+wordClass TimeWord = reserved
+wordClass Immediate = IMMEDIATE
+wordClass Never = reserved
+wordClass TimeGe = TIME≥
+wordClass Name = name
 
 -- the number that a field of digits is; 0 where it is none
 abbrev pub valueOf : DigitsRead → ℕ
@@ -102,19 +97,19 @@ saysNumber n x = record { moment = n; number = paperNumber x; operator = unsaid 
 abbrev pub saysOperator : Operator → Said
 saysOperator o = record { moment = unsaid .moment; number = unsaid .number; operator = paperOperator o }
 
--- what stands next: a token; the end of the file; no token
+-- what stands next: a token; the end of the file; no token, and why
 pub data Next : Type 0 where
   item : Placed → Next
-  ended none : ℕ → Next
+  ended : ℕ → Next
+  noTokenNext : Why → ℕ → Next
 
 abbrev pub at : Class → ℕ → ℕ → Said → Next
 at c a b x = item (record { class = c; place = a; end = b; said = x })
 
 unfoldable pub itemOf : List ℕ → Token → Next
 itemOf s (End p) = ended p
-itemOf s (Fault w p) = none p
-itemOf s (Word a b) = at (wordClass s a b) a b unsaid
-itemOf s (TimeGe a b) = at TIME≥ a b unsaid
+itemOf s (NoToken why p) = noTokenNext why p
+itemOf s (AWord w a b) = at (wordClass w) a b unsaid
 itemOf s (Number a b) = at (numberClass s a b) a b (saysNumber (dateNumber s a b) (numberOf (part s a (b - a))))
 itemOf s (Time a b) = at (timeClass s a) a b (saysTime (timeNumber s a))
 itemOf s (Text a b) = at string a b unsaid
@@ -128,7 +123,7 @@ nextItem s i = itemOf s (nextToken s i)
 -- the tokens from a place on are ts, and z ends them
 pub data Tokens (s : List ℕ) : ℕ → List Placed → Last → Type 0 where
   at-end : {i p : ℕ} → nextItem s i ≡ ended p → Tokens s i [] (end p)
-  no-token : {i p : ℕ} → nextItem s i ≡ none p → Tokens s i [] (broken p)
+  no-token : {i p : ℕ} {why : Why} → nextItem s i ≡ noTokenNext why p → Tokens s i [] (noTokenAt why p)
   then : {i : ℕ} {t : Placed} {ts : List Placed} {z : Last} → nextItem s i ≡ item t → Tokens s (t .end) ts z → Tokens s i (t ∷ ts) z
 
 -- from the place i on the next tokens are a, and e is the place after the last of them
@@ -145,11 +140,11 @@ pub record Line : Type 0 where
 
 abbrev pub lineOn : Next → (ℕ → Line) → Line
 lineOn (ended p) k = record { tokens = []; last = end p }
-lineOn (none p) k = record { tokens = []; last = broken p }
+lineOn (noTokenNext why p) k = record { tokens = []; last = noTokenAt why p }
 lineOn (item t) k = let r = k (t .end) in record { tokens = t ∷ r .tokens; last = r .last }
 
 unfoldable pub lineFrom : ℕ → List ℕ → ℕ → Line
-lineFrom zero s i = record { tokens = []; last = broken i }
+lineFrom zero s i = record { tokens = []; last = end i }
 lineFrom (suc n) s i = lineOn (nextItem s i) (λ b. lineFrom n s b)
 
 -- the tokens of a file from a place on, and what ends them

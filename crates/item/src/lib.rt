@@ -1,14 +1,17 @@
 // The next token of a job file with its class: what the grammar sees of it, as a struct of numbers.
 use calendar::is_real_date;
 use calendar::is_real_time;
+use counts::NO_TOKEN;
+use counts::UNEXPECTED;
 use decimal::DigitsRead;
 use decimal::digits_at;
 use number::Number;
 use number::number_at;
-use scan::is_word;
 use token::Operator;
 use token::Token;
+use token::Why;
 use token::next_token;
+use word::Word;
 ghost use mathlib.Core.Path.{_≡_};
 ghost use Prim.Native.Nat.{_+_, _-_, _≤_, _<_};
 ghost use lib.ListN.{length};
@@ -17,10 +20,10 @@ ghost use Rattle.grammar.specs.Grammar.{classNo};
 ghost use Rattle.field.specs.Part.{part};
 ghost use Rattle.token.specs.Token.{Short};
 ghost use Rattle.number.specs.Number.{numberOf};
-ghost use Rattle.item.specs.Tokens.{isOther, abortClass, clauseClass, wordClass, numberClass, dateNumber, twoAt, timeClass, timeNumber};
+ghost use Rattle.item.specs.Tokens.{wordClass, numberClass, dateNumber, twoAt, timeClass, timeNumber};
 ghost use Rattle.token.specs.declared.Operator.the-variants.{Equal};
 ghost use Rattle.grammar.specs.Grammar.Class.{operator as operatorClass};
-ghost use Rattle.item.specs.Items.{zero, madeOf, made, Seen, Stood};
+ghost use Rattle.item.specs.Items.{noTokenNo, refusalNo, zero, madeOf, made, Seen, Stood};
 
 // The classes of tokens.
 
@@ -73,8 +76,14 @@ pub const SEMICOLON: u8 = 21;
 // the end of the file
 pub const END: u8 = 22;
 
-// no token
-pub const NONE: u8 = 23;
+// no token, by why it is none
+pub const STRAY: u8 = 23;
+
+pub const OPEN_STRING: u8 = 24;
+
+pub const BROKEN_STRING: u8 = 25;
+
+pub const MISSHAPEN: u8 = 26;
 
 // A token by its class: its first byte and the place after it, counted from the file's start; a date's or a time's number; what a number reads
 // as; and which operator it is.
@@ -88,72 +97,54 @@ pub struct Item {
     pub operator: Operator,
 }
 
-// A reserved word that no production takes.
-fn is_other(s: &[u8], a: usize, b: usize) -> bool
-    requires { ⌜ a ≤ b ⌝ }
-    ensures { λ r. ⌜ r ≡ isOther (now (s .entry)) a b ⌝ }
+// The class of a word.
+fn word_class(word: Word) -> u8
+    ensures { λ r. ⌜ r ≡ classNo (wordClass word) ⌝ }
 {
-    is_word(s, a, b, b"STOP") | is_word(s, a, b, b"TIME") | is_word(s, a, b, b"NEVER")
+    match word {
+        Word::Job => JOB,
+        Word::Response => RESPONSE,
+        Word::Upload => UPLOAD,
+        Word::Download => DOWNLOAD,
+        Word::GetInfo => GETINFO,
+        Word::Abort => ABORT,
+        Word::Report => REPORT,
+        Word::Event => EVENT,
+        Word::Start => START,
+        Word::Stop => RESERVED,
+        Word::Active => ACTIVE,
+        Word::Time => RESERVED,
+        Word::Immediate => IMMEDIATE,
+        Word::Never => RESERVED,
+        Word::TimeGe => TIME_GE,
+        Word::Name => NAME,
+    }
 }
 
-// The words of ABORT, or a name.
-fn abort_class(s: &[u8], a: usize, b: usize) -> u8
-    requires { ⌜ a ≤ b ⌝ }
-    ensures { λ r. ⌜ r ≡ classNo (abortClass (now (s .entry)) a b) ⌝ }
+// The number in place of a class where no token stands.
+fn no_token_class(why: Why) -> u8
+    ensures { λ r. ⌜ r ≡ noTokenNo why ⌝ }
 {
-    if is_word(s, a, b, b"ABORT") {
-        return ABORT;
+    match why {
+        Why::Stray => STRAY,
+        Why::OpenString => OPEN_STRING,
+        Why::BrokenString => BROKEN_STRING,
+        Why::Misshapen => MISSHAPEN,
     }
-    if is_word(s, a, b, b"REPORT") {
-        return REPORT;
-    }
-    if is_word(s, a, b, b"EVENT") {
-        return EVENT;
-    }
-    if is_other(s, a, b) {
-        return RESERVED;
-    }
-    NAME
 }
 
-// The words within a statement, or else.
-fn clause_class(s: &[u8], a: usize, b: usize) -> u8
-    requires { ⌜ a ≤ b ⌝ }
-    ensures { λ r. ⌜ r ≡ classNo (clauseClass (now (s .entry)) a b) ⌝ }
+// The number that an item is refused with where it may not stand.
+pub fn refusal_number(class: u8) -> u32
+    ensures { λ r. ⌜ r ≡ refusalNo class ⌝ }
 {
-    if is_word(s, a, b, b"START") {
-        return START;
+    match class {
+        END => UNEXPECTED,
+        STRAY => NO_TOKEN,
+        OPEN_STRING => NO_TOKEN,
+        BROKEN_STRING => NO_TOKEN,
+        MISSHAPEN => NO_TOKEN,
+        _ => UNEXPECTED,
     }
-    if is_word(s, a, b, b"ACTIVE") {
-        return ACTIVE;
-    }
-    if is_word(s, a, b, b"IMMEDIATE") {
-        return IMMEDIATE;
-    }
-    if is_word(s, a, b, b"RESPONSE") {
-        return RESPONSE;
-    }
-    abort_class(s, a, b)
-}
-
-// The class of the word from a to b.
-fn word_class(s: &[u8], a: usize, b: usize) -> u8
-    requires { ⌜ a ≤ b ⌝ }
-    ensures { λ r. ⌜ r ≡ classNo (wordClass (now (s .entry)) a b) ⌝ }
-{
-    if is_word(s, a, b, b"JOB") {
-        return JOB;
-    }
-    if is_word(s, a, b, b"UPLOAD") {
-        return UPLOAD;
-    }
-    if is_word(s, a, b, b"DOWNLOAD") {
-        return DOWNLOAD;
-    }
-    if is_word(s, a, b, b"GETINFO") {
-        return GETINFO;
-    }
-    clause_class(s, a, b)
 }
 
 // An item of a class, from start to end of the bytes that begin at base.
@@ -252,9 +243,8 @@ pub fn next_item(s: &[u8], base: usize, at: usize) -> Item
 {
     match next_token(s, at - base) {
         Token::End(p) => item_of(base, END, p, p, 0),
-        Token::Fault { why: _, place } => item_of(base, NONE, place, place, 0),
-        Token::Word { start, end } => item_of(base, word_class(s, start, end), start, end, 0),
-        Token::TimeGe { start, end } => item_of(base, TIME_GE, start, end, 0),
+        Token::NoToken { why, place } => item_of(base, no_token_class(why), place, place, 0),
+        Token::Word { word, start, end } => item_of(base, word_class(word), start, end, 0),
         Token::Number { start, end } => number_item(s, base, start, end),
         Token::Time { start, end } => time_item(s, base, start, end),
         Token::Text { start, end } => item_of(base, STRING, start, end, 0),

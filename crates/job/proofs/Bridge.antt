@@ -5,25 +5,26 @@ use mathlib.Core.Bool.{Bool, true, false, cond}
 use mathlib.Core.List.{List, [], _∷_, _++_}
 use native.Mathlib.Omega.{arith}
 use borrow.Author.Tests.{lt-ltb, le-ltb, eq-eqb, ne-eqb}
-use lib.Dec.{eqb}
+use lib.Dec.{eqb, ltb}
 use lib.ListN.{length, length-append}
 use Rattle.counts.specs.Limits.{statements}
-use Rattle.counts.specs.Refusals.{noToken, unexpected, tooManyStatements, refusal}
+use Rattle.counts.specs.Refusals.{unexpected, tooManyStatements, refusal}
 use Rattle.counts.specs.Result.Result.{refused}
 use Rattle.grammar.specs.Grammar.{Class, classNo, isClass, shape}
 use Rattle.grammar.specs.Grammar.Class.{JOB, date, unrealDate, time, unrealTime}
 use Rattle.grammar.specs.Grammar.Point.{statement, done}
 use Rattle.grammar.specs.Productions.{Placed}
-use Rattle.grammar.specs.Reading.{State, Last, OffsetsRead, stepWith, opening, move, moves, atEnd, close, read}
+use Rattle.token.specs.declared.Why.{Why}
+use Rattle.grammar.specs.Reading.{State, Last, noTokenNumber, OffsetsRead, stepWith, opening, move, moves, atEnd, close, read}
 use Rattle.grammar.specs.Reading.State.{on, refusedAt}
 use Rattle.grammar.proofs.Moves.{moves-refused}
 use Rattle.grammar.proofs.Apart.{is-class, class-below}
 use Rattle.item.specs.Tokens.{Tokens}
-use Rattle.item.specs.Tokens.Next.{item, ended, none}
+use Rattle.item.specs.Tokens.Next.{item, ended, noTokenNext}
 use Rattle.item.specs.Tokens.Tokens.{at-end, no-token, then}
-use Rattle.item.specs.Items.{endNo, noneNo, itemAt}
+use Rattle.item.specs.Items.{endNo, refusalNo, itemAt}
 use Rattle.item.specs.declared.Item.{Item}
-use Rattle.item.proofs.Shows.{Shows, shows}
+use Rattle.item.proofs.Shows.{Shows, shows, no-token-numbers}
 use Rattle.item.proofs.Shows.Shows.{a-token, the-end, no-token as none-there}
 use Rattle.statement.specs.Statement.{readFrom}
 use Rattle.statement.specs.declared.StatementRead.{StatementRead}
@@ -61,8 +62,8 @@ opening-is os rs t = go os (isClass (t .class) JOB) refl
     go (o ∷ os) false e = rw (e, not-job (t .class) e)
 
 -- what stands between statements, by the tests
-tested : (s : List ℕ) (k : ℕ) (t : Item) (a b f z : Bool) → eqb (t .class) endNo ≡ a → eqb (t .class) noneNo ≡ b → eqb k statements ≡ f → eqb k 0 ≡ z
-    → stepOf s k t ≡ cond a (cond z (stop unexpected t) Over) (cond b (stop noToken t) (cond f (stop tooManyStatements t) (stepInto s k t)))
+tested : (s : List ℕ) (k : ℕ) (t : Item) (a b f z : Bool) → eqb (t .class) endNo ≡ a → ltb endNo (t .class) ≡ b → eqb k statements ≡ f → eqb k 0 ≡ z
+    → stepOf s k t ≡ cond a (cond z (stop (refusalNo (t .class)) t) Over) (cond b (stop (refusalNo (t .class)) t) (cond f (stop tooManyStatements t) (stepInto s k t)))
 unfolding stepOf
 tested s k t a b f z p q r o = rw (p, q, r, o)
 
@@ -70,29 +71,30 @@ module _ (s : List ℕ) where
   at-the-end : (t : Item) (p : ℕ) (os : List ℕ) (k : List ℕ → ℕ → OffsetsRead) → Shows t (ended p)
       → onStep (stepOf s (length os) t) os (t .place) k ≡ atEnd done os p
   at-the-end t p [] k (the-end c q) =
-      ap (λ (x : Step). onStep x [] (t .place) k) (tested s 0 t true _ _ true (ap (λ (n : ℕ). eqb n endNo) c) refl refl refl) ∙ ap (refused unexpected) q
+      ap (λ (x : Step). onStep x [] (t .place) k) (tested s 0 t true _ _ true (ap (λ (n : ℕ). eqb n endNo) c) refl refl refl) ∙ rw (c, q)
   at-the-end t p (o ∷ os) k (the-end c q) =
       ap (λ (x : Step). onStep x (o ∷ os) (t .place) k)
       (tested s (length (o ∷ os)) t true _ _ false (ap (λ (n : ℕ). eqb n endNo) c) refl refl (ne-eqb (length (o ∷ os)) 0 (λ e. omega arith)))
 
-  at-no-token : (t : Item) (p : ℕ) (os : List ℕ) (k : List ℕ → ℕ → OffsetsRead) → Shows t (none p)
-      → onStep (stepOf s (length os) t) os (t .place) k ≡ refused noToken p
-  at-no-token t p os k (none-there c q) =
+  at-no-token : (t : Item) (why : Why) (p : ℕ) (os : List ℕ) (k : List ℕ → ℕ → OffsetsRead) → Shows t (noTokenNext why p)
+      → onStep (stepOf s (length os) t) os (t .place) k ≡ refused (noTokenNumber why) p
+  at-no-token t why p os k (none-there c q) =
+      let above = no-token-numbers why .0 in
       ap (λ (x : Step). onStep x os (t .place) k)
-      (tested s (length os) t false true _ _ (ap (λ (n : ℕ). eqb n endNo) c) (ap (λ (n : ℕ). eqb n noneNo) c) refl refl)
-      ∙ ap (refused noToken) q
+      (tested s (length os) t false true _ _ (ne-eqb (t .class) endNo (λ e. omega arith)) (lt-ltb endNo (t .class) (omega arith)) refl refl)
+      ∙ rw (c, q, no-token-numbers why .1)
 
   not-end : (t : Item) (c : Class) → t .class ≡ classNo c → eqb (t .class) endNo ≡ false
   not-end t c e = ne-eqb (t .class) endNo (λ x. omega (arith, class-below c))
 
-  not-none : (t : Item) (c : Class) → t .class ≡ classNo c → eqb (t .class) noneNo ≡ false
-  not-none t c e = ne-eqb (t .class) noneNo (λ x. omega (arith, class-below c))
+  not-above : (t : Item) (c : Class) → t .class ≡ classNo c → ltb endNo (t .class) ≡ false
+  not-above t c e = le-ltb endNo (t .class) (omega (arith, class-below c))
 
   full : (t : Item) (u : Placed) (os : List ℕ) (k : List ℕ → ℕ → OffsetsRead) → length os ≡ statements → Shows t (item u)
       → onStep (stepOf s (length os) t) os (t .place) k ≡ refused tooManyStatements (u .place)
   full t u os k l (a-token c p n) =
       ap (λ (x : Step). onStep x os (t .place) k)
-      (tested s (length os) t false false true _ (not-end t (u .class) c) (not-none t (u .class) c) (eq-eqb _ _ l) refl)
+      (tested s (length os) t false false true _ (not-end t (u .class) c) (not-above t (u .class) c) (eq-eqb _ _ l) refl)
       ∙ ap (refused tooManyStatements) p
 
   into : (os : List ℕ) (i : ℕ) (u : Placed) → Shows (itemAt 0 s i) (item u)
@@ -106,7 +108,7 @@ module _ (s : List ℕ) where
       → stepOf s (length os) (itemAt 0 s i)
       ≡ byJob os (isClass (u .class) JOB) (stepRead (readFrom 0 s statement tt i)) (Stop (refusal unexpected (u .place)))
   one-step os i u l (a-token c p n) =
-      tested s (length os) (itemAt 0 s i) false false false _ (not-end (itemAt 0 s i) (u .class) c) (not-none (itemAt 0 s i) (u .class) c)
+      tested s (length os) (itemAt 0 s i) false false false _ (not-end (itemAt 0 s i) (u .class) c) (not-above (itemAt 0 s i) (u .class) c)
       (ne-eqb (length os) statements (λ z. omega arith)) refl
       ∙ into os i u (a-token c p n)
 
@@ -155,12 +157,12 @@ module _ (s : List ℕ) where
       → jobLoop s (suc left) os i ≡ close (moves (on done os) ts) z
   unfolding jobLoop
   loop zero {i = i} (at-end {p = p} e) os n = at-the-end (itemAt 0 s i) p os (jobLoop s zero) (rw e at (shows s i))
-  loop zero {i = i} (no-token {p = p} e) os n = at-no-token (itemAt 0 s i) p os (jobLoop s zero) (rw e at (shows s i))
+  loop zero {i = i} (no-token {p = p} {why = why} e) os n = at-no-token (itemAt 0 s i) why p os (jobLoop s zero) (rw e at (shows s i))
   loop zero {i = i} {z = z} (then {t = t} {ts = ts} e r) os n =
       full (itemAt 0 s i) t os (jobLoop s zero) (omega arith) (rw e at (shows s i))
       ∙ sym (ap (λ (x : State). close x z) (ap (λ (x : State). moves x ts) (too-many os t (omega arith)) ∙ moves-refused tooManyStatements (t .place) ts))
   loop (suc left) {i = i} (at-end {p = p} e) os n = at-the-end (itemAt 0 s i) p os (jobLoop s (suc left)) (rw e at (shows s i))
-  loop (suc left) {i = i} (no-token {p = p} e) os n = at-no-token (itemAt 0 s i) p os (jobLoop s (suc left)) (rw e at (shows s i))
+  loop (suc left) {i = i} (no-token {p = p} {why = why} e) os n = at-no-token (itemAt 0 s i) why p os (jobLoop s (suc left)) (rw e at (shows s i))
   loop (suc left) {i = i} {z = z} (then {t = t} {ts = ts} e r) os n =
       let h : Shows (itemAt 0 s i) (item t) = rw e at (shows s i) in
       ap₂ (λ (x : Step) (p : ℕ). onStep x os p (jobLoop s (suc left))) (one-step os i t (omega arith) h) (place-is h)

@@ -8,17 +8,17 @@ use native.Mathlib.Numerals.{add-one}
 use lib.Dec.{eqb, ltb}
 use lib.ListN.{length, take, set}
 use lib.Seq.{length-take-le, take-suc-set}
-use borrow.Author.Tests.{ltb-true, ltb-false}
+use borrow.Author.Tests.{ltb-true, ltb-false, lt-ltb, ne-eqb}
 use Rattle.counts.specs.Limits.{statements}
-use Rattle.counts.specs.Refusals.{noToken, unexpected, tooManyStatements}
+use Rattle.counts.specs.Refusals.{unexpected, tooManyStatements}
 use Rattle.counts.specs.Result.Result.{refused, done}
 use Rattle.counts.specs.declared.Refusal.{Refusal}
 use Rattle.grammar.specs.Reading.{OffsetsRead}
 use Rattle.item.specs.Tokens.{Next, nextItem}
-use Rattle.item.specs.Items.{endNo, noneNo, itemAt}
+use Rattle.item.specs.Items.{endNo, refusalNo, itemAt}
 use Rattle.item.specs.declared.Item.{Item}
 use Rattle.item.proofs.Lines.{inside}
-use Rattle.item.proofs.Shows.{Shows, shows}
+use Rattle.item.proofs.Shows.{Shows, shows, no-token-numbers}
 use Rattle.item.proofs.Shows.Shows.{a-token, the-end, no-token}
 use Rattle.job.specs.Loop.{stop, stepOf, onStep, jobLoop}
 use Rattle.job.specs.declared.Step.{Step}
@@ -33,9 +33,9 @@ stop≢on e = let z : _≡_ {A = ℕ} 0 1 = cc in omega arith
 -- after 64 statements no statement is read
 full-stops : (s : List ℕ) (t : Item) (n : ℕ) → stepOf s statements t ≡ On n → ⊥
 unfolding stepOf
-full-stops s t n e = go (eqb (t .class) endNo) (eqb (t .class) noneNo) e
+full-stops s t n e = go (eqb (t .class) endNo) (ltb endNo (t .class)) e
   where
-    go : (a b : Bool) → cond a Over (cond b (stop noToken t) (stop tooManyStatements t)) ≡ On n → ⊥
+    go : (a b : Bool) → cond a Over (cond b (stop (refusalNo (t .class)) t) (stop tooManyStatements t)) ≡ On n → ⊥
     go true b x = over≢on x
     go false true x = stop≢on x
     go false false x = stop≢on x
@@ -48,14 +48,14 @@ ended-stops s k t n c e = go (eqb k 0) (rw c at e)
     go true x = stop≢on x
     go false x = over≢on x
 
-none-stops : (s : List ℕ) (k : ℕ) (t : Item) (n : ℕ) → t .class ≡ noneNo → stepOf s k t ≡ On n → ⊥
+no-token-stops : (s : List ℕ) (k : ℕ) (t : Item) (n : ℕ) → endNo < t .class → stepOf s k t ≡ On n → ⊥
 unfolding stepOf
-none-stops s k t n c e = stop≢on (rw c at e)
+no-token-stops s k t n l e = stop≢on (rw (ne-eqb (t .class) endNo (λ c. omega arith), lt-ltb endNo (t .class) l) at e)
 
 -- a statement is read where a token stands
 on-token : (s : List ℕ) (k at : ℕ) (t : Item) (n : ℕ) → stepOf s k t ≡ On n → (x : Next) → nextItem s at ≡ x → Shows t x → t .place < length s
 on-token s k at t n e x i (the-end c p) = absurd (ended-stops s k t n c e)
-on-token s k at t n e x i (no-token c p) = absurd (none-stops s k t n c e)
+on-token s k at t n e x i (no-token {why = why} c p) = absurd (no-token-stops s k t n (omega (arith, no-token-numbers why .0)) e)
 on-token s k at t n e x i (a-token {u = u} c p q) = subst (λ (m : ℕ). m < length s) (sym p) (inside s at u i)
 
 module _ (s places : List ℕ) (k at : ℕ) (e : OffsetsRead) (inv : jobLoop s (statements + 1 - k) (take k places) at ≡ e) (few : k ≤ statements) (long : length places ≡ statements) (t : Item) (tok : t ≡ itemAt 0 s at) (r : Step) (is : r ≡ stepOf s k t) where

@@ -3,15 +3,15 @@
 use Prim.Native.Nat.{ℕ, zero, suc}
 use mathlib.Core.Bool.{cond}
 use mathlib.Core.List.{List, [], _∷_, _++_}
-use lib.Dec.{eqb}
+use lib.Dec.{eqb, ltb}
 use lib.ListN.{length, take}
 use Rattle.counts.specs.Limits.{statements}
-use Rattle.counts.specs.Refusals.{noToken, unexpected, tooManyStatements, refusal}
+use Rattle.counts.specs.Refusals.{unexpected, tooManyStatements, refusal}
 use Rattle.counts.specs.Result.Result.{refused, done}
 use Rattle.grammar.specs.Grammar.{classNo}
 use Rattle.grammar.specs.Grammar.Class.{JOB}
 use Rattle.grammar.specs.Reading.{OffsetsRead}
-use Rattle.item.specs.Items.{endNo, noneNo, itemAt}
+use Rattle.item.specs.Items.{endNo, refusalNo, itemAt}
 use Rattle.item.specs.declared.Item.{Item}
 use Rattle.statement.specs.Statement.{statementOf}
 use Rattle.statement.specs.declared.StatementRead.{StatementRead}
@@ -37,8 +37,8 @@ stepInto s k t =
 -- what stands after k statements: the file's end, no token, a token too many, or one more statement
 unfoldable pub stepOf : List ℕ → ℕ → Item → Step
 stepOf s k t =
-    cond (eqb (t .class) endNo) (cond (eqb k 0) (stop unexpected t) Over)
-    (cond (eqb (t .class) noneNo) (stop noToken t) (cond (eqb k statements) (stop tooManyStatements t) (stepInto s k t)))
+    cond (eqb (t .class) endNo) (cond (eqb k 0) (stop (refusalNo (t .class)) t) Over)
+    (cond (ltb endNo (t .class)) (stop (refusalNo (t .class)) t) (cond (eqb k statements) (stop tooManyStatements t) (stepInto s k t)))
 
 abbrev pub onStep : Step → List ℕ → ℕ → (List ℕ → ℕ → OffsetsRead) → OffsetsRead
 onStep Over os place rest = done os

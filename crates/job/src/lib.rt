@@ -1,7 +1,6 @@
 // Job files: the whole file with its offsets, one statement from its offset, and the text of a quoted string.
 use counts::FILE_BYTES;
 use counts::FILE_TOO_LONG;
-use counts::NO_TOKEN;
 use counts::OUT_OF_RANGE;
 use counts::Refusal;
 use counts::STATEMENTS;
@@ -11,8 +10,8 @@ use counts::UNEXPECTED;
 use item::END;
 use item::Item;
 use item::JOB;
-use item::NONE;
 use item::next_item;
+use item::refusal_number;
 use scan::TEXT;
 use scan::run_end;
 use statement::Statement;
@@ -107,12 +106,12 @@ fn step_of(file: &[u8], k: usize, t: Item) -> Step
 {
     if t.class == END {
         if k == 0 {
-            return stop(UNEXPECTED, t);
+            return stop(refusal_number(t.class), t);
         }
         return Step::Over;
     }
-    if t.class == NONE {
-        return stop(NO_TOKEN, t);
+    if END < t.class {
+        return stop(refusal_number(t.class), t);
     }
     if k == STATEMENTS as usize {
         return stop(TOO_MANY_STATEMENTS, t);

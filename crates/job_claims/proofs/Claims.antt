@@ -24,7 +24,7 @@ use Rattle.job.specs.Job.{onRoom, readJob}
 use Rattle.item.proofs.Lines.{line-tokens}
 use Rattle.item.proofs.Ends.{end-is-length}
 use Rattle.job.specs.Statement.{Tiled}
-use Rattle.job_claims.proofs.Places.{broken-within, end-within, token-within}
+use Rattle.job_claims.proofs.Places.{no-token-within, end-within, token-within}
 use Rattle.job_claims.proofs.Tiles.{tiles, one-tiling}
 use Rattle.job_claims.specs.Verdict.{Verdict, Taken, Crowded}
 use Rattle.job_claims.specs.Verdict.Verdict.{too-long, broken, no-room, fits}
@@ -141,7 +141,7 @@ module _ (s : List ℕ) (room : ℕ) where
     where
       fits-in : {n p : ℕ} → Verdict s room (refused n p) → (1 ≤ n) × (n ≤ 14) × (p ≤ fileBytes)
       fits-in (too-long l) = (omega arith, omega arith, omega arith)
-      fits-in (broken l (three r)) = (omega arith, omega arith, omega (arith, broken-within (line-tokens s) (omega arith) (r .1)))
+      fits-in (broken l (three r)) = (omega arith, omega arith, omega (arith, no-token-within (line-tokens s) (omega arith) (r .1 .1)))
       fits-in (broken l (four-token r)) = (omega arith, omega arith, omega (arith, token-within (line-tokens s) (r .2)))
       fits-in (broken l (four-end r)) = (omega arith, omega arith, omega (arith, end-within (line-tokens s) (omega arith) (r .1)))
       fits-in (broken l (five r)) = (omega arith, omega arith, omega (arith, token-within (line-tokens s) (r .2)))

@@ -11,20 +11,21 @@ use Rattle.grammar.specs.Grammar.{Point, step, walk, isPoint, shape}
 use Rattle.grammar.specs.Grammar.Point.{statement, done, dead}
 use Rattle.grammar.specs.Productions.{Placed, classes}
 use Rattle.grammar.specs.Reading.{Last}
-use Rattle.grammar.specs.Reading.Last.{end, broken}
+use Rattle.grammar.specs.Reading.Last.{end, noTokenAt}
 use Rattle.grammar.specs.Rows.{real, Stands}
 use Rattle.grammar.proofs.Apart.{is-point}
 use Rattle.grammar.proofs.Points.{classes-append, walk-append, stays, refuted, elsewhere, walked-any, any-walks}
 use Rattle.grammar.proofs.Ways.{finish, finishes}
 use Rattle.grammar.proofs.Viable.{placed, its-classes}
+use Rattle.token.specs.declared.Why.{Why}
 use Rattle.item.specs.Tokens.{nextItem, Tokens, After}
-use Rattle.item.specs.Tokens.Next.{item, ended, none}
+use Rattle.item.specs.Tokens.Next.{item, ended, noTokenNext}
 use Rattle.item.specs.Items.{itemAt}
 use Rattle.item.specs.Tokens.Tokens.{at-end, no-token, then as and-then}
 use Rattle.statement.specs.declared.StatementRead.{StatementRead}
 use Rattle.statement.specs.declared.StatementRead.the-variants.{Is, Refused}
 use Rattle.statement.specs.Statement.{Held, readFrom}
-use Rattle.statement.proofs.Along.{is-whole, after, on-token, on-end, on-none}
+use Rattle.statement.proofs.Along.{is-whole, after, on-token, on-end, on-no-token}
 use Rattle.statement.proofs.Bridge.{Holds, by-tokens}
 use Rattle.item.specs.Tokens.After.{here, then}
 use Rattle.job_claims.specs.Rows.{WholeOne, Opens, OneThree, OneFourEnd, OneFourToken, OneFive}
@@ -132,8 +133,8 @@ module _ (s : List ℕ) where
   pub next-end : {i p : ℕ} → Tokens s i [] (end p) → nextItem s i ≡ ended p
   next-end (at-end x) = x
 
-  next-none : {i p : ℕ} → Tokens s i [] (broken p) → nextItem s i ≡ none p
-  next-none (no-token x) = x
+  next-no-token : {i p : ℕ} {why : Why} → Tokens s i [] (noTokenAt why p) → nextItem s i ≡ noTokenNext why p
+  next-no-token (no-token x) = x
 
   -- the rows give the reading
   module _ (at : ℕ) (ts : List Placed) (z : Last) (d : Tokens s at ts z) where
@@ -147,11 +148,11 @@ module _ (s : List ℕ) where
         let k = so-far f (ap (λ (q : Point). isPoint q dead) (any-walks (w .1))) in
         k .1 ∙ ends-whole (point a) (k .0) e (any-walks (w .1))
 
-    none-is : (p : ℕ) → OneThree ts z p → ends statement tt at ≡ refused noToken p
-    none-is p (o, n, e) =
-        let c : Cut at ts [] (broken p) = cut ts (subst (Tokens s at ts) e d) (sym (append-nil ts)) in
+    no-token-is : (p : ℕ) → OneThree ts z p → ends statement tt at ≡ refused noToken p
+    no-token-is p (o, n, (why, e)) =
+        let c : Cut at ts [] (noTokenAt why p) = cut ts (subst (Tokens s at ts) e d) (sym (append-nil ts)) in
         let k = so-far (c .first) (alive ts o) in
-        k .1 ∙ ap endOf (on-none s (point ts) (k .0) (still-open ts n) (c .place) p (next-none (c .then-rest)))
+        k .1 ∙ ap endOf (on-no-token s (point ts) (k .0) (still-open ts n) (c .place) why p (next-no-token (c .then-rest)))
 
     end-is : (p : ℕ) → OneFourEnd ts z p → ends statement tt at ≡ refused unexpected p
     end-is p (o, n, e) =
@@ -180,7 +181,7 @@ module _ (s : List ℕ) where
 
     pub says-one : (x : Result ℕ) → Judged s at ts z x → endOf (readFrom 0 s statement tt at) ≡ x
     says-one x (read {e = e} o) = whole-is e o
-    says-one x (three {p = p} r) = none-is p r
+    says-one x (three {p = p} r) = no-token-is p r
     says-one x (four-end {p = p} r) = end-is p r
     says-one x (four-token {p = p} r) = four-is p r
     says-one x (five {p = p} r) = five-is p r
@@ -218,7 +219,7 @@ module _ (s : List ℕ) where
         record {
           whole = λ i ts z d x a e f l. read (a, f, walked-any a e);
           over = λ q o i p a e f l. rw (append-nil a) (four-end (opens a l, not-whole a (still a e o), refl));
-          lost = λ q o i p a e f l. rw (append-nil a) (three (opens a l, not-whole a (still a e o), refl));
+          lost = λ q o i why p a e f l. rw (append-nil a) (three (opens a l, not-whole a (still a e o), (why, refl)));
           barred = λ q o i t us z d y g a e f l. barred a t us z l (still a e o) (rw e d) y (rw e g);
           along = λ q o i t us z n d v r a e f l.
               let m : point (a ++ (t ∷ [])) ≡ step q (t .class) = point-append a t ∙ ap (λ (p : Point). step p (t .class)) e in

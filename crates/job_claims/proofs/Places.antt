@@ -8,34 +8,34 @@ use lib.ListN.{length}
 use Rattle.scan.specs.Run.{blankEnd}
 use Rattle.scan.proofs.Settled.{onward}
 use Rattle.token.specs.Token.{tokenAt, nextToken}
+use Rattle.token.specs.declared.Why.{Why}
 use Rattle.token.specs.declared.Token.{Token}
 use Rattle.token.proofs.Ahead as token
 use Rattle.token.proofs.Ahead.{Ahead}
-use Rattle.token.proofs.Ahead.Ahead.{the-end, a-fault, a-word, a-time-ge, a-number, a-time, a-text, a-sign, a-semicolon}
+use Rattle.token.proofs.Ahead.Ahead.{the-end, no-token as nothing-there, a-word, a-number, a-time, a-text, a-sign, a-semicolon}
 use Rattle.grammar.specs.Productions.{Placed}
 use Rattle.grammar.specs.Reading.{Last}
-use Rattle.grammar.specs.Reading.Last.{end, broken}
+use Rattle.grammar.specs.Reading.Last.{end, noTokenAt}
 use Rattle.grammar.specs.Rows.{Stands}
 use Rattle.item.specs.Tokens.{Next, itemOf, nextItem, Tokens}
-use Rattle.item.specs.Tokens.Next.{item, ended, none}
+use Rattle.item.specs.Tokens.Next.{item, ended, noTokenNext}
 use Rattle.item.specs.Tokens.Tokens.{at-end, no-token, then}
 use Rattle.item.proofs.Lines.{ahead, inside}
 
 abbrev placeOf : Next → ℕ
 placeOf (item t) = t .place
 placeOf (ended p) = p
-placeOf (none p) = p
+placeOf (noTokenNext why p) = p
 
 abbrev lastPlace : Last → ℕ
 lastPlace (end p) = p
-lastPlace (broken p) = p
+lastPlace (noTokenAt why p) = p
 
 stands-at : (s : List ℕ) (i : ℕ) (k : Token) → Ahead s i k → placeOf (itemOf s k) ≡ i
 unfolding itemOf
 stands-at s i k (the-end l) = refl
-stands-at s i k (a-fault l) = refl
+stands-at s i k (nothing-there l) = refl
 stands-at s i k (a-word l) = refl
-stands-at s i k (a-time-ge l) = refl
 stands-at s i k (a-number l n) = refl
 stands-at s i k (a-time l) = refl
 stands-at s i k (a-text l) = refl
@@ -54,8 +54,8 @@ last-within {s} {i} (no-token e) l = next-in s i _ l e
 last-within {s} {i} (then {t = t} e r) l = last-within r (ahead s i t e .1 .inside)
 
 module _ {s : List ℕ} {i : ℕ} {ts : List Placed} {z : Last} (d : Tokens s i ts z) (l : i ≤ length s) {p : ℕ} where
-  pub broken-within : z ≡ broken p → p ≤ length s
-  broken-within e = let h = last-within d l in rw e at h
+  pub no-token-within : {why : Why} → z ≡ noTokenAt why p → p ≤ length s
+  no-token-within e = let h = last-within d l in rw e at h
 
   pub end-within : z ≡ end p → p ≤ length s
   end-within e = let h = last-within d l in rw e at h

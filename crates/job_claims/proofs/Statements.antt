@@ -33,7 +33,7 @@ use Rattle.meaning.specs.Paper.{paperStatement}
 use Rattle.job.specs.Statement.{placed, onRead, statementIn, readStatement}
 use Rattle.job.specs.declared.StatementAt.{StatementAt}
 use Rattle.job_claims.specs.Rows.{WholeOne, One, OneThree, OneFourEnd, OneFourToken, OneFive}
-use Rattle.job_claims.proofs.Places.{broken-within, end-within, token-within}
+use Rattle.job_claims.proofs.Places.{no-token-within, end-within, token-within}
 use Rattle.job_claims.proofs.Tiles.{same-read, ReadsOne, reads-one}
 use Rattle.job_claims.proofs.One.{endOf, Judged, says-one, one-says}
 use Rattle.job_claims.proofs.One.Judged.{read, three, four-end, four-token, five}
@@ -170,7 +170,7 @@ module _ (s : List ℕ) (at : ℕ) where
       fits-in : {n p : ℕ} → Verdict (refused n p) → (1 ≤ n) × (n ≤ 14) × (p ≤ fileBytes)
       fits-in (too-long l) = (omega arith, omega arith, omega arith)
       fits-in (past l m) = (omega arith, omega arith, omega arith)
-      fits-in (not-read l m (three r)) = (omega arith, omega arith, omega (arith, broken-within (tokens-at s at) m (r .2)))
+      fits-in (not-read l m (three r)) = (omega arith, omega arith, omega (arith, no-token-within (tokens-at s at) m (r .2 .1)))
       fits-in (not-read l m (four-end r)) = (omega arith, omega arith, omega (arith, end-within (tokens-at s at) m (r .2)))
       fits-in (not-read l m (four-token r)) = (omega arith, omega arith, omega (arith, token-within (tokens-at s at) (r .2)))
       fits-in (not-read l m (five r)) = (omega arith, omega arith, omega (arith, token-within (tokens-at s at) (r .2)))

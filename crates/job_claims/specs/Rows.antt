@@ -6,8 +6,9 @@ use mathlib.Core.List.{List, [], _∷_, _++_}
 use Rattle.grammar.specs.Statement.{Statement}
 use Rattle.grammar.specs.Productions.{Placed, Any, Ended}
 use Rattle.grammar.specs.Reading.{Last}
-use Rattle.grammar.specs.Reading.Last.{end, broken}
+use Rattle.grammar.specs.Reading.Last.{end, noTokenAt}
 use Rattle.grammar.specs.Rows.{real, Stands}
+use Rattle.token.specs.declared.Why.{Why}
 use Rattle.item.specs.Tokens.{After}
 
 -- the tokens a are a whole statement
@@ -29,7 +30,7 @@ pub record One (s : List ℕ) (at : ℕ) (y : Statement) (o e : ℕ) : Type 0 wh
 
 -- 3: "the next bytes are no token"
 abbrev pub OneThree : List Placed → Last → ℕ → Type 0
-OneThree ts z p = Opens ts × ¬ WholeOne ts × z ≡ broken p
+OneThree ts z p = Opens ts × ¬ WholeOne ts × ((why : Why) × z ≡ noTokenAt why p)
 
 -- 4: the end of the file, in an open statement
 abbrev pub OneFourEnd : List Placed → Last → ℕ → Type 0

@@ -53,7 +53,7 @@ append-nil (x ∷ xs) = ap (λ (l : List ℕ). x ∷ l) (append-nil xs)
 
 module _ (w : List ℕ) (whole : allDigits w ≡ true) where
   unsigned-digits : (f : List ℕ) → allDigits f ≡ true → digitsOf (unsigned w f) ≡ w ++ f
-  unfolding digitsOf isDigit
+  unfolding digitsOf
   unsigned-digits [] h = all-digits-of w whole ∙ sym (append-nil w)
   unsigned-digits (x ∷ f) h = digits-of w (46 ∷ (x ∷ f)) whole ∙ ap (λ (l : List ℕ). w ++ l) (all-digits-of (x ∷ f) h)
 
@@ -73,7 +73,7 @@ abbrev readsAs : Bool → List ℕ → List ℕ → Number
 readsAs minus w f = record { mantissa = signedOf minus (value (w ++ f)); scale = length f }
 
 spelled-reads : (minus : Bool) (w f : List ℕ) → allDigits w ≡ true → allDigits f ≡ true → 1 ≤ length w → numberOf (spelled minus w f) ≡ readsAs minus w f
-unfolding numberOf digitsOf scaleOf isDigit
+unfolding numberOf digitsOf scaleOf
 spelled-reads false w f whole after some = rw (no-sign w f whole some, unsigned-digits w whole f after, unsigned-scale w whole f)
 spelled-reads true w f whole after some = rw (unsigned-digits w whole f after, unsigned-scale w whole f)
 

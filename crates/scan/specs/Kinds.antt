@@ -2,6 +2,7 @@
 use Prim.Native.Nat.{ℕ}
 use mathlib.Core.Bool.{Bool, cond, not, _&&_, _||_}
 use lib.Dec.{eqb, leb}
+pub use Rattle.decimal.specs.Digits.{isDigit}
 
 -- low ≤ b ≤ high
 abbrev pub within : ℕ → ℕ → ℕ → Bool
@@ -14,9 +15,6 @@ isSeparator b = eqb b 32 || eqb b 9 || eqb b 13 || eqb b 10
 -- "a comment that runs up to CR, LF or the end"
 abbrev pub isLineEnd : ℕ → Bool
 isLineEnd b = eqb b 13 || eqb b 10
-
-abbrev pub isDigit : ℕ → Bool
-isDigit b = within 48 57 b
 
 -- "an ASCII letter"
 abbrev pub isLetter : ℕ → Bool

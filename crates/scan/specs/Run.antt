@@ -1,11 +1,10 @@
 -- Runs of bytes of one kind, and what separates tokens (document 01, "Bytes and tokens").
-use Prim.Native.Nat.{ℕ, suc, _+_, _-_, _≤_, max}
+use Prim.Native.Nat.{ℕ, suc, _+_, _≤_, max}
 use mathlib.Core.Path.{_≡_}
 use mathlib.Core.Bool.{Bool, true, false, not, _&&_}
 use mathlib.Core.List.{List, [], _∷_}
 use lib.ListN.{length, getD, drop}
 use lib.Dec.{eqb}
-use Rattle.field.specs.Bytes.{hasAt}
 use Rattle.scan.specs.Kinds.{isSeparator, isLineEnd}
 
 -- how many bytes at the front pass the test
@@ -35,10 +34,6 @@ blank false (x ∷ xs) =
 -- the place of the next token, or the end, from at on
 unfoldable pub blankEnd : Bool → List ℕ → ℕ → ℕ
 blankEnd comment s at = at + blank comment (drop at s)
-
--- the word from start to end is w
-abbrev pub isWordAt : List ℕ → ℕ → ℕ → List ℕ → Bool
-isWordAt s start end w = eqb (end - start) (length w) && hasAt s start w
 
 -- ---- Need not be believed: it binds functions inside alone, and no claim cites it
 

@@ -1,13 +1,12 @@
 // Scans: the kind of a byte, the end of a run of one kind, and the place of the next token.
 use field::byte_at;
-use field::has_at;
 ghost use mathlib.Core.Path.{_≡_};
 ghost use mathlib.Core.Bool.{false};
 ghost use Prim.Native.Nat.{_<_, _≤_};
 ghost use lib.Dec.{eqb};
 ghost use lib.ListN.{length, getD};
 ghost use Rattle.scan.specs.Kinds.{isSeparator, isDigit, isLetter, isWordByte, isNumericByte, isTextByte, isCommentByte, ofKind};
-ghost use Rattle.scan.specs.Run.{runEnd, blankEnd, commentAt, isWordAt, Reached};
+ghost use Rattle.scan.specs.Run.{runEnd, blankEnd, commentAt, Reached};
 
 // The kinds of which there are runs.
 
@@ -155,15 +154,4 @@ pub fn blank_end(s: &[u8], at: usize) -> usize
         }
     }
     i
-}
-
-// Whether the word from start to end is w.
-pub fn is_word(s: &[u8], start: usize, end: usize, w: &[u8]) -> bool
-    requires { ⌜ start ≤ end ⌝ }
-    ensures { λ r. ⌜ r ≡ isWordAt (now (s .entry)) start end (now (w .entry)) ⌝ }
-{
-    if end - start == w.len() {
-        return has_at(s, start, w);
-    }
-    false
 }

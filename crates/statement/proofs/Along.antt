@@ -7,17 +7,19 @@ use native.Mathlib.Omega.{arith}
 use borrow.Author.Tests.{ne-eqb}
 use lib.Dec.{eqb}
 use Rattle.laws.proofs.Choose.{and-left, and-right, choose}
-use Rattle.counts.specs.Refusals.{noToken, unexpected, notReal, refusal}
+use Rattle.counts.specs.Refusals.{unexpected, notReal, refusal}
 use Rattle.grammar.specs.Grammar.{Class, Point, Edge, Each, next, look, step, classNo, isClass, isPoint, shape}
 use Rattle.grammar.specs.Grammar.Class.{date, unrealDate, time, unrealTime}
 use Rattle.grammar.specs.Grammar.Point.{statement, done, dead}
 use Rattle.grammar.specs.Productions.{Placed}
+use Rattle.grammar.specs.Reading.{noTokenNumber, endNumber}
 use Rattle.grammar.proofs.Apart.{is-class, class-below, every, at-point}
+use Rattle.token.specs.declared.Why.{Why}
 use Rattle.item.specs.Tokens.{nextItem}
-use Rattle.item.specs.Tokens.Next.{item, ended, none}
-use Rattle.item.specs.Items.{endNo, noneNo, itemAt}
+use Rattle.item.specs.Tokens.Next.{item, ended, noTokenNext}
+use Rattle.item.specs.Items.{endNo, noTokenNo, itemAt}
 use Rattle.item.specs.declared.Item.{Item}
-use Rattle.item.proofs.Shows.{Shows, shows}
+use Rattle.item.proofs.Shows.{Shows, shows, no-token-numbers, token-number}
 use Rattle.item.proofs.Shows.Shows.{a-token, the-end, no-token}
 use Rattle.statement.specs.declared.Statement.{Statement}
 use Rattle.statement.specs.declared.StatementRead.{StatementRead}
@@ -133,7 +135,7 @@ at-date a false x y = rw (and-false (not a))
 
 refuses : (q : Point) (t : Item) (c : Class) → t .class ≡ classNo c → isPoint (step q c) dead ≡ true
     → otherwise q t ≡ cond (isPoint (step q (shape c)) dead) (refuse unexpected t) (refuse notReal t)
-refuses q t c ec d = rw (ec, ne-eqb (classNo c) noneNo (λ z. omega (arith, class-below c))) (go (isClass c unrealTime) (isClass c unrealDate) refl refl)
+refuses q t c ec d = rw (ec, token-number c) (go (isClass c unrealTime) (isClass c unrealDate) refl refl)
   where
     go : (x y : Bool) → isClass c unrealTime ≡ x → isClass c unrealDate ≡ y
         → cond (not (isPoint (step q time) dead) && x) (refuse notReal t) (cond (not (isPoint (step q date) dead) && y) (refuse notReal t) (refuse unexpected t))
@@ -184,17 +186,18 @@ module _ (s : List ℕ) (q : Point) (h : Held q) (o : isPoint q done ≡ false) 
       ∙ pick-none q (itemAt 0 s i) h (rest (itemAt 0 s i)) (otherwise q (itemAt 0 s i)) f (next q) (adds q)
       ∙ rw (f unrealTime, f unrealDate, and-false (not (isPoint (step q time) dead)), and-false (not (isPoint (step q date) dead)))
 
-  pub on-end : (p : ℕ) → nextItem s i ≡ ended p → readFrom 0 s q h i ≡ Refused (refusal unexpected p)
+  pub on-end : (p : ℕ) → nextItem s i ≡ ended p → readFrom 0 s q h i ≡ Refused (refusal endNumber p)
   on-end p e = go (rw e at (shows s i))
     where
-      go : Shows (itemAt 0 s i) (ended p) → readFrom 0 s q h i ≡ Refused (refusal unexpected p)
+      go : Shows (itemAt 0 s i) (ended p) → readFrom 0 s q h i ≡ Refused (refusal endNumber p)
       go (the-end c r) = no-edge (outside (itemAt 0 s i) endNo c (omega arith)) ∙ rw (c, r)
 
-  pub on-none : (p : ℕ) → nextItem s i ≡ none p → readFrom 0 s q h i ≡ Refused (refusal noToken p)
-  on-none p e = go (rw e at (shows s i))
+  pub on-no-token : (why : Why) (p : ℕ) → nextItem s i ≡ noTokenNext why p → readFrom 0 s q h i ≡ Refused (refusal (noTokenNumber why) p)
+  on-no-token why p e = go (rw e at (shows s i))
     where
-      go : Shows (itemAt 0 s i) (none p) → readFrom 0 s q h i ≡ Refused (refusal noToken p)
-      go (no-token c r) = no-edge (outside (itemAt 0 s i) noneNo c (omega arith)) ∙ rw (c, r)
+      go : Shows (itemAt 0 s i) (noTokenNext why p) → readFrom 0 s q h i ≡ Refused (refusal (noTokenNumber why) p)
+      go (no-token c r) =
+          no-edge (outside (itemAt 0 s i) (noTokenNo why) c (omega (arith, no-token-numbers why .0))) ∙ rw (c, r, no-token-numbers why .1)
 
 -- a statement of any kind
 pub any-kind : (s : List ℕ) (i : ℕ) → statementOf 0 s (itemAt 0 s i) ≡ readFrom 0 s statement tt i

@@ -3,14 +3,15 @@ use Prim.Native.Nat.{ℕ}
 use mathlib.Core.Path.{_≡_, refl, sym, _∙_, ap, subst}
 use mathlib.Core.Bool.{Bool, true, false, cond}
 use mathlib.Core.List.{List, [], _∷_}
-use Rattle.counts.specs.Refusals.{noToken, unexpected, notReal, refusal}
+use Rattle.counts.specs.Refusals.{unexpected, notReal, refusal}
 use Rattle.counts.specs.Result.Result.{refused}
 use Rattle.grammar.specs.Grammar.{Point, step, isPoint, shape}
 use Rattle.grammar.specs.Grammar.Point.{done, dead}
 use Rattle.grammar.specs.Productions.{Placed}
-use Rattle.grammar.specs.Reading.{State, Last, moves, atEnd, close}
+use Rattle.token.specs.declared.Why.{Why}
+use Rattle.grammar.specs.Reading.{State, Last, moves, atEnd, close, noTokenNumber, endNumber}
 use Rattle.grammar.specs.Reading.State.{on}
-use Rattle.grammar.specs.Reading.Last.{end, broken}
+use Rattle.grammar.specs.Reading.Last.{end, noTokenAt}
 use Rattle.grammar.proofs.Apart.{is-point}
 use Rattle.grammar.proofs.Moves.{moves-refused}
 use Rattle.item.specs.Tokens.{nextItem, Tokens}
@@ -21,14 +22,15 @@ use Rattle.statement.specs.declared.Statement.{Statement}
 use Rattle.statement.specs.declared.StatementRead.{StatementRead}
 use Rattle.statement.specs.declared.StatementRead.the-variants.{Is, Refused}
 use Rattle.statement.specs.Statement.{Held, readFrom}
-use Rattle.statement.proofs.Along.{is-whole, after, on-token, on-end, on-none}
+use Rattle.statement.proofs.Along.{is-whole, after, on-token, on-end, on-no-token}
 
 -- What holds of every reading from a point q on, of the tokens ts from the place i on, ended by z: it holds of a whole statement, where no token
 -- stands, where the token t is refused, and of t if it holds of what is read after it.
 pub record Holds (s : List ℕ) (R : Point → ℕ → List Placed → Last → StatementRead → Type 0) : Type 0 where
   pub whole : (i : ℕ) (ts : List Placed) (z : Last) → Tokens s i ts z → (x : Statement) → R done i ts z (Is x i)
-  pub over : (q : Point) → isPoint q done ≡ false → (i p : ℕ) → R q i [] (end p) (Refused (refusal unexpected p))
-  pub lost : (q : Point) → isPoint q done ≡ false → (i p : ℕ) → R q i [] (broken p) (Refused (refusal noToken p))
+  pub over : (q : Point) → isPoint q done ≡ false → (i p : ℕ) → R q i [] (end p) (Refused (refusal endNumber p))
+  pub lost : (q : Point) → isPoint q done ≡ false → (i : ℕ) (why : Why) (p : ℕ)
+      → R q i [] (noTokenAt why p) (Refused (refusal (noTokenNumber why) p))
   pub barred : (q : Point) → isPoint q done ≡ false → (i : ℕ) (t : Placed) (ts : List Placed) (z : Last) → isPoint (step q (t .class)) dead ≡ true
       → (y : Bool) → isPoint (step q (shape (t .class))) dead ≡ y → R q i (t ∷ ts) z (Refused (refusal (cond y unexpected notReal) (t .place)))
   pub along : (q : Point) → isPoint q done ≡ false → (i : ℕ) (t : Placed) (ts : List Placed) (z : Last) → nextItem s i ≡ item t
@@ -54,7 +56,8 @@ module _ (s : List ℕ) (R : Point → ℕ → List Placed → Last → Statemen
 
   pub by-tokens : {i : ℕ} {ts : List Placed} {z : Last} → Tokens s i ts z → (q : Point) (h : Held q) → R q i ts z (readFrom 0 s q h i)
   by-tokens {i} (at-end {p = p} n) q h = unless-done (at-end n) q h (λ o. subst (R q i [] (end p)) (sym (on-end s q h o i p n)) (holds .over q o i p))
-  by-tokens {i} (no-token {p = p} n) q h = unless-done (no-token n) q h (λ o. subst (R q i [] (broken p)) (sym (on-none s q h o i p n)) (holds .lost q o i p))
+  by-tokens {i} (no-token {p = p} {why = why} n) q h =
+      unless-done (no-token n) q h (λ o. subst (R q i [] (noTokenAt why p)) (sym (on-no-token s q h o i why p n)) (holds .lost q o i why p))
   by-tokens {i} {z = z} (then {t = t} {ts = ts} n r) q h =
       unless-done (then n r) q h
       (λ o. subst (R q i (t ∷ ts) z) (sym (on-token s q h o i t n))
@@ -66,7 +69,7 @@ abbrev pub Reads : List ℕ → Point → List ℕ → List Placed → Last → 
 Reads s q os ts z (Is x b) = (rest : List Placed) × Tokens s b rest z × close (moves (on q os) ts) z ≡ close (moves (on done os) rest) z
 Reads s q os ts z (Refused r) = close (moves (on q os) ts) z ≡ refused (r .number) (r .place)
 
-open-end : (q : Point) (os : List ℕ) (p : ℕ) → isPoint q done ≡ false → atEnd q os p ≡ refused unexpected p
+open-end : (q : Point) (os : List ℕ) (p : ℕ) → isPoint q done ≡ false → atEnd q os p ≡ refused endNumber p
 open-end q [] p d = refl
 open-end q (o ∷ os) p d = rw d
 
@@ -89,7 +92,7 @@ rest-reads s =
     (record {
       whole = λ i ts z d x os. (ts, d, refl);
       over = λ q o i p os. open-end q os p o;
-      lost = λ q o i p os. refl;
+      lost = λ q o i why p os. refl;
       barred = λ q o i t ts z e y f os. barred-reads q o t ts z e y f os;
       along = λ q o i t ts z n e v r os. carry s q (step q (t .class)) os (t ∷ ts) ts z (ap (λ (x : State). close (moves x ts) z) (rw (o, e))) v (r os);
     })

@@ -5,12 +5,12 @@ use Prim.Native.Nat.{ℕ, zero, suc}
 use mathlib.Core.Bool.{Bool, true, false, cond, not, _&&_, _||_}
 use mathlib.Core.List.{List, [], _∷_}
 use lib.Dec.{eqb}
-use Rattle.counts.specs.Refusals.{noToken, unexpected, notReal, refusal}
+use Rattle.counts.specs.Refusals.{notReal, refusal}
 use Rattle.token.specs.declared.Operator.{Operator}
 use Rattle.grammar.specs.Grammar.{Class, Point, Edge, Each, noClause, next, step, classNo, isPoint}
 use Rattle.grammar.specs.Grammar.Class.{number, date, unrealDate, time, unrealTime}
 use Rattle.grammar.specs.Grammar.Point.{first, between, statement, jobName, jobResponse, jobFile, moveFile, moveSource, moveStart, startKind, startTime, startDate, startOperator, startValue, infoFile, abortKind, abortName, ending, done, dead}
-use Rattle.item.specs.Items.{noneNo, itemAt}
+use Rattle.item.specs.Items.{refusalNo, itemAt}
 use Rattle.item.specs.declared.Item.{Item}
 use Rattle.statement.specs.declared.Part.{Part}
 use Rattle.statement.specs.declared.Source.{Source}
@@ -34,9 +34,9 @@ use Rattle.statement.specs.declared.StatementRead.the-variants.{Is, Refu
 abbrev pub refuse : ℕ → Item → StatementRead
 refuse n t = Refused (refusal n (t .place))
 
--- 3 where the next bytes are no token, else 4
+-- what may not stand: the end of the file, no token, or a token
 abbrev pub unexpectedAt : Item → StatementRead
-unexpectedAt t = cond (eqb (t .class) noneNo) (refuse noToken t) (refuse unexpected t)
+unexpectedAt t = refuse (refusalNo (t .class)) t
 
 -- the class may stand at the point
 abbrev pub may : Point → Class → Bool

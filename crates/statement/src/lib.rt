@@ -1,8 +1,6 @@
 // The statements of a job file: one function to a point of the grammar, each from the place where its first token is looked for.
-use counts::NO_TOKEN;
 use counts::NOT_REAL;
 use counts::Refusal;
-use counts::UNEXPECTED;
 use item::ABORT;
 use item::ACTIVE;
 use item::DATE;
@@ -13,7 +11,6 @@ use item::IMMEDIATE;
 use item::Item;
 use item::JOB;
 use item::NAME;
-use item::NONE;
 use item::NUMBER;
 use item::OPERATOR;
 use item::REPORT;
@@ -27,6 +24,7 @@ use item::UNREAL_DATE;
 use item::UNREAL_TIME;
 use item::UPLOAD;
 use item::next_item;
+use item::refusal_number;
 use number::Number;
 use token::Operator;
 ghost use mathlib.Core.Path.{_≡_};
@@ -124,14 +122,11 @@ fn refuse(number: u32, t: Item) -> StatementRead
     })
 }
 
-// A token that may not stand, or no token.
+// What may not stand: the end of the file, no token, or a token.
 fn unexpected(t: Item) -> StatementRead
     ensures { λ r. ⌜ r ≡ unexpectedAt t ⌝ }
 {
-    if t.class == NONE {
-        return refuse(NO_TOKEN, t);
-    }
-    refuse(UNEXPECTED, t)
+    refuse(refusal_number(t.class), t)
 }
 
 fn part_of(t: Item) -> Part

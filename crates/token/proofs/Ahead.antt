@@ -1,4 +1,4 @@
--- Where a token stands: at the place where it was looked for, and it ends after it, within the file. Assumes nothing.
+-- Where a token stands: at the place where it was looked for, and it ends after it, within the file.
 use Prim.Native.Nat.{ℕ, _+_, _≤_, _<_, max}
 use mathlib.Core.Path.{_≡_, refl, sym, _∙_, ap}
 use mathlib.Core.Bool.{Bool, true, false, true≢false, cond, _||_, _&&_}
@@ -7,21 +7,23 @@ use mathlib.Core.Logic.{_⊎_, inl, inr, ⊎-elim}
 use native.Mathlib.Omega.{arith}
 use borrow.Author.Tests.{ltb-true, ltb-false, leb-true, eqb-true}
 use lib.Dec.{ltb, leb, eqb}
-use lib.ListN.{length, getD, drop, length-drop, List·getD-eq-default}
-use lib.Seq.{drop-cons}
-use Rattle.counts.specs.Limits.{wordBytes, numberDigits}
+use lib.ListN.{length, getD, List·getD-eq-default}
+use Rattle.counts.specs.Limits.{numberDigits}
 use Rattle.laws.proofs.Choose.{and-left, and-right}
-use Rattle.field.specs.Bytes.{ascii, hasAt}
-use Rattle.field.proofs.Same.{has-room}
-use Rattle.scan.specs.Kinds.{isDigit, isLetter, isWordByte, isNumericByte, isTextByte}
-use Rattle.scan.specs.Run.{run, runEnd, blankEnd}
-use Rattle.scan.proofs.Runs.{run-fits}
+use Rattle.scan.specs.Kinds.{isDigit, isLetter, isNumericByte, isTextByte}
+use Rattle.scan.specs.Run.{runEnd, blankEnd}
+use Rattle.scan.proofs.Runs.{run-some, run-inside}
 use Rattle.scan.proofs.Settled.{Onward, onward}
-use Rattle.token.specs.Token.{contentEnd, contentFits, wordAt, textAt, isTextAt, isTimeAt, isNumberAt, shapedAt, numericAt, signAt, tokenAt, nextToken, Short}
+use Rattle.token.specs.Token.{contentEnd, contentFits, wordToken, stringAt, isTextAt, isTimeAt, isNumberAt, shapedAt, numericAt, signAt, tokenAt, nextToken, Short}
+use Rattle.word.specs.Word.{wordRead}
+use Rattle.word.specs.declared.Word.{Word as ReservedOrName}
+use Rattle.word.specs.declared.WordRead.{WordRead}
+use Rattle.word.specs.declared.WordRead.the-variants.{Is, NoWord}
+use Rattle.word.proofs.Words.{Within, within}
 use Rattle.token.specs.declared.Operator.{Operator}
 use Rattle.token.specs.declared.Why.{Why}
 use Rattle.token.specs.declared.Token.{Token}
-use Rattle.token.specs.declared.Token.the-variants.{End, Fault, Word, TimeGe, Number, Time, Text, Sign, Semicolon}
+use Rattle.token.specs.declared.Token.the-variants.{End, NoToken, Word, Number, Time, Text, Sign, Semicolon}
 
 -- from i up to b, within the file
 pub record Span (s : List ℕ) (i b : ℕ) : Type 0 where
@@ -39,9 +41,8 @@ pub record Figures (s : List ℕ) (i b : ℕ) : Type 0 where
 -- the token, if there is one, stands at i and ends after it, within the file
 pub data Ahead (s : List ℕ) (i : ℕ) : Token → Type 0 where
   the-end : length s ≤ i → Ahead s i (End i)
-  a-fault : {w : Why} → i < length s → Ahead s i (Fault w i)
-  a-word : {b : ℕ} → Span s i b → Ahead s i (Word i b)
-  a-time-ge : {b : ℕ} → Span s i b → Ahead s i (TimeGe i b)
+  no-token : {w : Why} → i < length s → Ahead s i (NoToken w i)
+  a-word : {w : ReservedOrName} {b : ℕ} → Span s i b → Ahead s i (Word w i b)
   a-number : {b : ℕ} → Span s i b → Figures s i b → Ahead s i (Number i b)
   a-time : {b : ℕ} → Span s i b → Ahead s i (Time i b)
   a-text : {b : ℕ} → Span s i b → Ahead s i (Text i b)
@@ -75,10 +76,6 @@ module _ (s : List ℕ) (i : ℕ) where
   unfolding runEnd
   from p j = omega arith
 
-  up-to : (p : ℕ → Bool) (j : ℕ) → j ≤ length s → runEnd p s j ≤ length s
-  unfolding runEnd
-  up-to p j l = omega (arith, run-fits p (drop j s), length-drop j s)
-
   -- a byte that passes a test that 0 does not pass
   pub in-range : (p : ℕ → Bool) (k : ℕ) → p 0 ≡ false → p (getD s k 0) ≡ true → k < length s
   in-range p k z e = go (ltb k (length s)) refl
@@ -87,17 +84,9 @@ module _ (s : List ℕ) (i : ℕ) where
       go true l = ltb-true _ _ l
       go false l = absurd (true≢false (sym e ∙ ap p (List·getD-eq-default s 0 (ltb-false _ _ l)) ∙ z))
 
-  -- a run whose first byte passes
-  pub past : (p : ℕ → Bool) → i < length s → p (getD s i 0) ≡ true → i < runEnd p s i
-  unfolding runEnd run
-  past p l e = rw (drop-cons s i 0 l, run, e) (omega arith)
-
-  word : i < length s → isLetter (getD s i 0) ≡ true → Ahead s i (wordAt s i)
-  unfolding wordAt
-  word l e =
-      choice (Ahead s i) (hasAt s i (ascii "TIME>="))
-      (λ h. a-time-ge (omega (arith, has-room s i (ascii "TIME>=") (omega arith) h)))
-      (λ h. either (leb (runEnd isWordByte s i) (i + wordBytes)) (a-word (omega (arith, past isWordByte l (rw e), up-to isWordByte i (omega arith)))) (a-fault l))
+  word : i < length s → (r : WordRead) → Within s i r → Ahead s i (wordToken i r)
+  word l (Is w b) h = a-word {b = b} (omega arith)
+  word l NoWord h = no-token l
 
   -- a number has at most 16 digits and a point, and a sign before its first digit
   number-short : (d e : ℕ) → isNumberAt s d e ≡ true → e ≤ d + numberDigits + 1
@@ -111,25 +100,25 @@ module _ (s : List ℕ) (i : ℕ) where
       → Ahead s i (shapedAt s i d)
   unfolding shapedAt
   shaped d n f k m l =
-      let r : Span s i (runEnd isNumericByte s d) = omega (arith, up-to isNumericByte d m) in
+      let r : Span s i (runEnd isNumericByte s d) = omega (arith, run-inside isNumericByte s d m) in
       either (isTimeAt s i (runEnd isNumericByte s d)) (a-time r)
-      (choice (Ahead s i) (isNumberAt s d (runEnd isNumericByte s d)) (λ h. a-number r (record { first = d; sign = n; digit = f; number = h; longest = refl })) (λ h. a-fault k))
+      (choice (Ahead s i) (isNumberAt s d (runEnd isNumericByte s d)) (λ h. a-number r (record { first = d; sign = n; digit = f; number = h; longest = refl })) (λ h. no-token k))
 
   numeric : i < length s → (isDigit (getD s i 0) || eqb (getD s i 0) 45) ≡ true → Ahead s i (numericAt s i)
   unfolding numericAt
   numeric l e =
       choice (Ahead s i) (eqb (getD s i 0) 45)
-      (λ m. choice (Ahead s i) (isDigit (getD s (i + 1) 0)) (λ d. shaped (i + 1) (inr (refl, eqb-true _ 45 m)) d l (omega arith) (omega (arith, from isNumericByte (i + 1)))) (λ d. a-fault l))
+      (λ m. choice (Ahead s i) (isDigit (getD s (i + 1) 0)) (λ d. shaped (i + 1) (inr (refl, eqb-true _ 45 m)) d l (omega arith) (omega (arith, from isNumericByte (i + 1)))) (λ d. no-token l))
       (λ m.
       let d = digit (isDigit (getD s i 0)) (eqb (getD s i 0) 45) e m in
-      shaped i (inl refl) d l (omega arith) (past isNumericByte l (rw d (numeric-byte (isLetter (getD s i 0)) (eqb (getD s i 0) 95) (eqb (getD s i 0) 46) (eqb (getD s i 0) 58)))))
+      shaped i (inl refl) d l (omega arith) (run-some isNumericByte s i l (rw d (numeric-byte (isLetter (getD s i 0)) (eqb (getD s i 0) 95) (eqb (getD s i 0) 46) (eqb (getD s i 0) 58)))))
 
-  text : i < length s → Ahead s i (textAt s i)
-  unfolding textAt isTextAt
+  text : i < length s → Ahead s i (stringAt s i)
+  unfolding stringAt isTextAt
   text l =
       choice (Ahead s i) (isTextAt s i)
       (λ e. a-text (omega (arith, from isTextByte (i + 1), in-range (λ b. eqb b 34) (contentEnd s i) refl (and-right (eqb (getD s i 0) 34 && contentFits s i) (eqb (getD s (contentEnd s i) 0) 34) e))))
-      (λ e. either (contentFits s i && leb (length s) (contentEnd s i)) (a-fault l) (a-fault l))
+      (λ e. either (contentFits s i && leb (length s) (contentEnd s i)) (no-token l) (no-token l))
 
   one : i < length s → Span s i (i + 1)
   one l = omega arith
@@ -141,23 +130,22 @@ module _ (s : List ℕ) (i : ℕ) where
   unfolding signAt
   sign l =
       choice (Ahead s i) (eqb (getD s (i + 1) 0) 61)
-      (λ e. search (either, a-sign, a-semicolon, a-fault, two, one) depth 12)
-      (λ e. search (either, a-sign, a-semicolon, a-fault, one) depth 9)
+      (λ e. search (either, a-sign, a-semicolon, no-token, two, one) depth 12)
+      (λ e. search (either, a-sign, a-semicolon, no-token, one) depth 9)
 
   pub ahead : Ahead s i (tokenAt s i)
   unfolding tokenAt
   ahead =
       choice (Ahead s i) (ltb i (length s))
-      (λ l. choice (Ahead s i) (isLetter (getD s i 0)) (λ e. word (ltb-true _ _ l) e)
+      (λ l. choice (Ahead s i) (isLetter (getD s i 0)) (λ e. word (ltb-true _ _ l) (wordRead s i) (within s i (ltb-true _ _ l) e))
       (λ n. choice (Ahead s i) (isDigit (getD s i 0) || eqb (getD s i 0) 45) (λ e. numeric (ltb-true _ _ l) e) (λ m. either (eqb (getD s i 0) 34) (text (ltb-true _ _ l)) (sign (ltb-true _ _ l)))))
       (λ l. the-end (ltb-false _ _ l))
 
 -- a token's first byte and the place after it; of the end and of no token, its place
 abbrev pub startOf : Token → ℕ
 startOf (End p) = p
-startOf (Fault w p) = p
-startOf (Word a b) = a
-startOf (TimeGe a b) = a
+startOf (NoToken w p) = p
+startOf (Word w a b) = a
 startOf (Number a b) = a
 startOf (Time a b) = a
 startOf (Text a b) = a
@@ -166,9 +154,8 @@ startOf (Semicolon a b) = a
 
 abbrev pub endOf : Token → ℕ
 endOf (End p) = p
-endOf (Fault w p) = p
-endOf (Word a b) = b
-endOf (TimeGe a b) = b
+endOf (NoToken w p) = p
+endOf (Word w a b) = b
 endOf (Number a b) = b
 endOf (Time a b) = b
 endOf (Text a b) = b
@@ -183,9 +170,8 @@ pub record Lies (s : List ℕ) (i a b : ℕ) : Type 0 where
 
 lies-from : {s : List ℕ} {i : ℕ} {t : Token} → Ahead s i t → Lies s i (startOf t) (endOf t)
 lies-from (the-end l) = omega arith
-lies-from (a-fault l) = omega arith
+lies-from (no-token l) = omega arith
 lies-from (a-word r) = omega arith
-lies-from (a-time-ge r) = omega arith
 lies-from (a-number r f) = omega arith
 lies-from (a-time r) = omega arith
 lies-from (a-text r) = omega arith

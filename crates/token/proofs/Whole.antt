@@ -16,9 +16,11 @@ use Rattle.counts.specs.Limits.{textBytes}
 use Rattle.scan.specs.Kinds.{isDigit, isLetter, isTextByte}
 use Rattle.scan.specs.Run.{run, runEnd}
 use Rattle.scan.proofs.Runs.{run-fits, run-passes, run-whole}
-use Rattle.token.specs.Token.{WholeString, contentEnd, contentFits, isTextAt, contentAt, wordAt, textAt, shapedAt, numericAt, signAt, tokenAt}
+use Rattle.token.specs.Token.{WholeString, contentEnd, contentFits, isTextAt, contentAt, wordToken, stringAt, shapedAt, numericAt, signAt, tokenAt}
+use Rattle.word.specs.declared.WordRead.{WordRead}
+use Rattle.word.specs.declared.WordRead.the-variants.{Is, NoWord}
 use Rattle.token.specs.declared.Token.{Token}
-use Rattle.token.specs.declared.Token.the-variants.{End, Fault, Word, TimeGe, Number, Time, Text, Sign, Semicolon}
+use Rattle.token.specs.declared.Token.the-variants.{End, NoToken, Word, Number, Time, Text, Sign, Semicolon}
 use Rattle.token.proofs.Ahead.{in-range, text-inside}
 
 -- ---- "bytes from 32 to 254 other than 34"
@@ -125,9 +127,8 @@ whole-string-exactly s i c = (λ w. (tested s i c w, content-is s i c w), λ h. 
 
 abbrev isString : Token → Bool
 isString (End p) = false
-isString (Fault w p) = false
-isString (Word a b) = false
-isString (TimeGe a b) = false
+isString (NoToken w p) = false
+isString (Word w a b) = false
 isString (Number a b) = false
 isString (Time a b) = false
 isString (Text a b) = true
@@ -153,11 +154,11 @@ last-of true false true q t h = absurd (false≢true h)
 last-of true true n q t h = absurd (false≢true h)
 last-of false a n q t h = absurd (false≢true h)
 
-module _ (s : List ℕ) (i : ℕ) where
-  no-word : isString (wordAt s i) ≡ false
-  unfolding wordAt
-  no-word = simp (string-cond, both-no)
+no-word : (i : ℕ) (r : WordRead) → isString (wordToken i r) ≡ false
+no-word i (Is w e) = refl
+no-word i NoWord = refl
 
+module _ (s : List ℕ) (i : ℕ) where
   no-shape : (d : ℕ) → isString (shapedAt s i d) ≡ false
   unfolding shapedAt
   no-shape d = simp (string-cond, both-no)
@@ -170,8 +171,8 @@ module _ (s : List ℕ) (i : ℕ) where
   unfolding signAt
   no-sign = simp (string-cond, both-no)
 
-  the-text : isString (textAt s i) ≡ isTextAt s i
-  unfolding textAt
+  the-text : isString (stringAt s i) ≡ isTextAt s i
+  unfolding stringAt
   the-text = simp (string-cond, both-no, yes-or-no)
 
   of-string : isString (tokenAt s i) ≡ true → isTextAt s i ≡ true
@@ -181,7 +182,7 @@ module _ (s : List ℕ) (i : ℕ) where
       (simp (string-cond, no-word, no-numeric, no-sign, the-text) at h)
 
   to-string : isTextAt s i ≡ true → tokenAt s i ≡ Text i (contentEnd s i + 1)
-  unfolding tokenAt textAt
+  unfolding tokenAt stringAt
   to-string t = rw (lt-ltb _ _ (text-inside s i t), begins s i t, t)
 
   -- the closing quote stands just after the content

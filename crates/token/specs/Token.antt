@@ -1,26 +1,26 @@
 -- The tokens of a job file (document 01, "Bytes and tokens"): each definition stands under its rule there. "A token is the longest run of
--- its kind". Where no token stands, `Fault` keeps why, which no call shows.
+-- its kind". Where no token stands, `NoToken` keeps why.
 use Prim.Native.Nat.{ℕ, _+_, _-_, _≤_, _<_}
 use mathlib.Core.Bool.{Bool, false, cond, _&&_, _||_}
 use mathlib.Core.Path.{_≡_}
 use mathlib.Core.List.{List, _∷_, _++_, List·Memᴰ}
 use lib.Dec.{eqb, leb, ltb}
 use lib.ListN.{length, getD, take, drop}
-use Rattle.counts.specs.Limits.{wordBytes, textBytes, numberDigits}
-use Rattle.field.specs.Bytes.{hasAt, ascii}
-use Rattle.scan.specs.Kinds.{isDigit, isLetter, isWordByte, isNumericByte, isTextByte}
+use Rattle.counts.specs.Limits.{textBytes, numberDigits}
+use Rattle.scan.specs.Kinds.{isDigit, isLetter, isNumericByte, isTextByte}
 use Rattle.scan.specs.Run.{runEnd, blankEnd}
+use Rattle.word.specs.Word.{wordRead}
+use Rattle.word.specs.declared.WordRead.{WordRead}
+use Rattle.word.specs.declared.WordRead.the-variants.{Is, NoWord}
 use Rattle.token.specs.declared.Operator.the-variants.{Equal, NotEqual, Above, Below, AtLeast, AtMost}
 use Rattle.token.specs.declared.Why.the-variants.{Stray, OpenString, BrokenString, Misshapen}
 use Rattle.token.specs.declared.Token.{Token}
-use Rattle.token.specs.declared.Token.the-variants.{End, Fault, Word, TimeGe, Number, Time, Text, Sign, Semicolon}
+use Rattle.token.specs.declared.Token.the-variants.{End, NoToken, Word, Number, Time, Text, Sign, Semicolon}
 
--- "Word: an ASCII letter, then ASCII letters, digits or `_`; 1 to 255 bytes, and a longer run is no token; case counts. `TIME` directly
--- followed by `>=` makes the one token `TIME>=`."
-unfoldable pub wordAt : List ℕ → ℕ → Token
-wordAt s i =
-    cond (hasAt s i (ascii "TIME>=")) (TimeGe i (i + 6))
-    (cond (leb (runEnd isWordByte s i) (i + wordBytes)) (Word i (runEnd isWordByte s i)) (Fault Misshapen i))
+-- "Word: [..] a longer run is no token": what is read from i on
+abbrev pub wordToken : ℕ → WordRead → Token
+wordToken i (Is w e) = Word w i e
+wordToken i NoWord = NoToken Misshapen i
 
 -- "String: byte 34, then 0 to 255 bytes from 32 to 254 other than 34, then byte 34.": so stand the bytes of s from i on, with c between the
 -- quotes
@@ -50,10 +50,10 @@ contentAt s i = take (contentEnd s i - (i + 1)) (drop (i + 1) s)
 
 -- the token that opens with a quote at i: a whole string. Else it meets its 256th content byte, the end of the file or a forbidden byte
 -- first.
-unfoldable pub textAt : List ℕ → ℕ → Token
-textAt s i =
+unfoldable pub stringAt : List ℕ → ℕ → Token
+stringAt s i =
     cond (isTextAt s i) (Text i (contentEnd s i + 1))
-    (cond (contentFits s i && leb (length s) (contentEnd s i)) (Fault OpenString i) (Fault BrokenString i))
+    (cond (contentFits s i && leb (length s) (contentEnd s i)) (NoToken OpenString i) (NoToken BrokenString i))
 
 -- ---- times
 
@@ -81,18 +81,18 @@ isNumberAt s d e =
 unfoldable pub shapedAt : List ℕ → ℕ → ℕ → Token
 shapedAt s i d =
     cond (isTimeAt s i (runEnd isNumericByte s d)) (Time i (runEnd isNumericByte s d))
-    (cond (isNumberAt s d (runEnd isNumericByte s d)) (Number i (runEnd isNumericByte s d)) (Fault Misshapen i))
+    (cond (isNumberAt s d (runEnd isNumericByte s d)) (Number i (runEnd isNumericByte s d)) (NoToken Misshapen i))
 
 -- "Numeric run: an optional `-`, a digit, then digits, letters, `_`, `.` and `:`."
 unfoldable pub numericAt : List ℕ → ℕ → Token
-numericAt s i = cond (eqb (getD s i 0) 45) (cond (isDigit (getD s (i + 1) 0)) (shapedAt s i (i + 1)) (Fault Stray i)) (shapedAt s i i)
+numericAt s i = cond (eqb (getD s i 0) 45) (cond (isDigit (getD s (i + 1) 0)) (shapedAt s i (i + 1)) (NoToken Stray i)) (shapedAt s i i)
 
 -- "Operators `=` `!=` `>` `<` `>=` `<=`, and `;`.": of one byte b
 abbrev pub oneSign : ℕ → ℕ → Token
 oneSign b i =
     cond (eqb b 59) (Semicolon i (i + 1))
     (cond (eqb b 61) (Sign Equal i (i + 1))
-    (cond (eqb b 62) (Sign Above i (i + 1)) (cond (eqb b 60) (Sign Below i (i + 1)) (Fault Stray i))))
+    (cond (eqb b 62) (Sign Above i (i + 1)) (cond (eqb b 60) (Sign Below i (i + 1)) (NoToken Stray i))))
 
 -- the same where `=` follows b
 abbrev pub signBeforeEqual : ℕ → ℕ → Token
@@ -107,8 +107,8 @@ signAt s i = cond (eqb (getD s (i + 1) 0) 61) (signBeforeEqual (getD s i 0) i) (
 unfoldable pub tokenAt : List ℕ → ℕ → Token
 tokenAt s i =
     cond (ltb i (length s))
-    (cond (isLetter (getD s i 0)) (wordAt s i)
-    (cond (isDigit (getD s i 0) || eqb (getD s i 0) 45) (numericAt s i) (cond (eqb (getD s i 0) 34) (textAt s i) (signAt s i))))
+    (cond (isLetter (getD s i 0)) (wordToken i (wordRead s i))
+    (cond (isDigit (getD s i 0) || eqb (getD s i 0) 45) (numericAt s i) (cond (eqb (getD s i 0) 34) (stringAt s i) (signAt s i))))
     (End i)
 
 -- the next token from at on

@@ -1,23 +1,24 @@
 // The tokens of a job file: what stands at a place, with the place after it.
 use counts::NUMBER_DIGITS;
 use counts::TEXT_BYTES;
-use counts::WORD_BYTES;
 use field::byte_at;
-use field::has_at;
 use scan::DIGIT;
 use scan::NUMERIC;
 use scan::TEXT;
-use scan::WORD;
 use scan::blank_end;
 use scan::digit_at;
 use scan::is_digit;
 use scan::is_letter;
 use scan::run_end;
+use word::Word;
+use word::WordRead;
+use word::word_at;
 ghost use mathlib.Core.Path.{_≡_};
 ghost use Prim.Native.Nat.{_≤_, _<_, _*_};
 ghost use lib.ListN.{length, getD};
 ghost use Rattle.counts.specs.Limits.{fileBytes};
-ghost use Rattle.token.specs.Token.{wordAt, textAt, isTextAt, pairAt, isTimeAt, isNumberAt, shapedAt, numericAt, oneSign, signBeforeEqual, signAt, tokenAt, nextToken};
+ghost use Rattle.word.specs.Word.{wordRead};
+ghost use Rattle.token.specs.Token.{wordToken, stringAt, isTextAt, pairAt, isTimeAt, isNumberAt, shapedAt, numericAt, oneSign, signBeforeEqual, signAt, tokenAt, nextToken};
 
 pub enum Operator {
     Equal,
@@ -40,15 +41,12 @@ pub enum Why {
 // A token from start up to end; the end of the file; or a place where no token stands.
 pub enum Token {
     End(usize),
-    Fault {
+    NoToken {
         why: Why,
         place: usize,
     },
     Word {
-        start: usize,
-        end: usize,
-    },
-    TimeGe {
+        word: Word,
         start: usize,
         end: usize,
     },
@@ -77,28 +75,24 @@ pub enum Token {
 
 fn word_token(s: &[u8], i: usize) -> Token
     requires { ⌜ (i < length (now s)) × (length (now s) ≤ fileBytes) ⌝ }
-    ensures { λ r. ⌜ r ≡ wordAt (now (s .entry)) i ⌝ }
+    ensures { λ r. ⌜ r ≡ wordToken i (wordRead (now (s .entry)) i) ⌝ }
 {
-    if has_at(s, i, b"TIME>=") {
-        return Token::TimeGe {
-            start: i,
-            end: i + 6,
-        };
-    }
-    let end = run_end(s, i, WORD);
-    if end <= i + WORD_BYTES {
-        Token::Word { start: i, end }
-    } else {
-        Token::Fault {
+    let WordRead::Is(word, end) = word_at(s, i) else {
+        return Token::NoToken {
             why: Why::Misshapen,
             place: i,
-        }
+        };
+    };
+    Token::Word {
+        word,
+        start: i,
+        end,
     }
 }
 
 fn text_token(s: &[u8], i: usize) -> Token
     requires { ⌜ (i < length (now s)) × (length (now s) ≤ fileBytes) × (getD (now s) i 0 ≡ 34) ⌝ }
-    ensures { λ r. ⌜ r ≡ textAt (now (s .entry)) i ⌝ }
+    ensures { λ r. ⌜ r ≡ stringAt (now (s .entry)) i ⌝ }
 {
     let end = run_end(s, i + 1, TEXT);
     if end - (i + 1) <= TEXT_BYTES {
@@ -109,17 +103,17 @@ fn text_token(s: &[u8], i: usize) -> Token
             };
         }
         if end < s.len() {
-            return Token::Fault {
+            return Token::NoToken {
                 why: Why::BrokenString,
                 place: i,
             };
         }
-        return Token::Fault {
+        return Token::NoToken {
             why: Why::OpenString,
             place: i,
         };
     }
-    Token::Fault {
+    Token::NoToken {
         why: Why::BrokenString,
         place: i,
     }
@@ -168,7 +162,7 @@ fn one_sign(b: u8, i: usize) -> Token
             end,
         };
     }
-    Token::Fault {
+    Token::NoToken {
         why: Why::Stray,
         place: i,
     }
@@ -262,7 +256,7 @@ fn shaped_token(s: &[u8], i: usize, d: usize) -> Token
     if is_number(s, d, end) {
         return Token::Number { start: i, end };
     }
-    Token::Fault {
+    Token::NoToken {
         why: Why::Misshapen,
         place: i,
     }
@@ -276,7 +270,7 @@ fn numeric_token(s: &[u8], i: usize) -> Token
         if digit_at(s, i + 1) {
             return shaped_token(s, i, i + 1);
         }
-        return Token::Fault {
+        return Token::NoToken {
             why: Why::Stray,
             place: i,
         };

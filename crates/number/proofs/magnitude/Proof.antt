@@ -6,7 +6,7 @@ use native.Mathlib.Omega.{arith}
 use lib.ListN.{getD}
 use denote.Ref.{now}
 use Rattle.field.specs.Part.{part}
-use Rattle.decimal.specs.Digits.{value, isDigit}
+use Rattle.decimal.specs.Digits.{value}
 use Rattle.decimal.proofs.Laws.{digit-low, digit-high}
 use Rattle.number.specs.Number.{digitsOf}
 use Rattle.number.proofs.Digits.{readOn, digit-on, other-on, all-read, starts, grows, room, most}
@@ -33,14 +33,12 @@ mul-m : tie.Need-mul-m Inv-loop μ-loop
 mul-m c = omega (arith, room _ _ _ (c .before .before .before .loop .inv .1) (c .before .before .loop-test .taken) (c .before .before .before .before .before .pre .1))
 
 sub-wide : tie.Need-sub-wide Inv-loop μ-loop
-unfolding isDigit
 sub-wide c = omega (arith, digit-low (getD (now (c .before .before .before .before .before .args .s)) (c .before .before .before .before .before .args .at + c .before .before .before .loop .i) 0) (c .if1 .taken))
 
 wide-requires : tie.Need-wide-requires Inv-loop μ-loop
 wide-requires c κs = search needs
 
 add-m : tie.Need-add-m Inv-loop μ-loop
-unfolding isDigit
 add-m c = omega (arith, room _ _ _ (c .before .before .before .before .loop .inv .1) (c .before .before .before .loop-test .taken) (c .before .before .before .before .before .before .pre .1), digit-high (getD (now (c .before .before .before .before .before .before .args .s)) (c .before .before .before .before .before .before .args .at + c .before .before .before .before .loop .i) 0) (c .before .if1 .taken))
 
 add-i : tie.Need-add-i Inv-loop μ-loop
@@ -50,7 +48,6 @@ loop-less : tie.Need-loop-less Inv-loop μ-loop
 loop-less c = omega arith
 
 loop-again : tie.Need-loop-again Inv-loop μ-loop
-unfolding isDigit
 loop-again c = (omega arith, grows _ _ _ (c .before .before .before .before .loop .inv .1) (omega (arith, digit-high (getD (now (c .before .before .before .before .before .before .args .s)) (c .before .before .before .before .before .before .args .at + c .before .before .before .before .loop .i) 0) (c .before .if1 .taken))), digit-on _ _ _ _ (c .before .before .before .before .before .before .pre .0) _ (c .before .before .before .before .loop .inv .2) _ (c .before .before .before .loop-test .taken) (c .before .if1 .taken) (c .wide .ensures))
 
 add-i-2 : tie.Need-add-i-2 Inv-loop μ-loop
@@ -60,7 +57,6 @@ loop-less-2 : tie.Need-loop-less-2 Inv-loop μ-loop
 loop-less-2 c = omega arith
 
 loop-again-2 : tie.Need-loop-again-2 Inv-loop μ-loop
-unfolding isDigit
 loop-again-2 c = (omega arith, omega (arith, grows _ _ 0 (c .before .before .before .loop .inv .1) (omega arith)), other-on _ _ _ _ (c .before .before .before .before .before .pre .0) _ (c .before .before .before .loop .inv .2) (c .before .before .loop-test .taken) (c .if1 .left))
 
 returns : tie.Need-returns Inv-loop μ-loop
