@@ -1,11 +1,12 @@
--- A field that is there reads as what was written, a field that was read is there, and a field that was written is there.
+-- A field that is there reads as what was written, a field that was read is there, and what the answers say in the form in which readers ask for it.
 use Prim.Native.Nat.{ℕ, _+_, _^_, _≤_, _<_}
-use mathlib.Core.Path.{_≡_, refl, ap, _∙_}
+use mathlib.Core.Path.{_≡_, refl, sym, ap, _∙_}
 use mathlib.Core.Bool.{Bool, true, false, cond}
 use mathlib.Core.List.{List, _++_}
 use native.Mathlib.Nat.{pow-le-pow-right}
 use native.Mathlib.Omega.{arith}
 use lib.ListN.{length, drop, length-append, length-drop}
+use Rattle.laws.proofs.Choose.{choose}
 use Rattle.field.specs.Bytes.{hasAt}
 use Rattle.field.specs.Part.{part, Wrote}
 use Rattle.field.proofs.Parts.{part-is, rest-is, is-part}
@@ -33,7 +34,8 @@ module _ {R : Type 0} (stop r : R) (never : stop ≡ r → ⊥) where
   field-on NoField go h = absurd (never h)
 
 -- a word that stands there
-pub word-back : (s : List ℕ) (at : ℕ) (word : List ℕ) (next : ℕ) → next ≡ at + length word → hasAt s at word ≡ true → drop at s ≡ word ++ drop next s
+pub word-back : (s : List ℕ) (at : ℕ) (word : List ℕ) (next : ℕ) → next ≡ at + length word → hasAt s at word ≡ true
+    → drop at s ≡ word ++ drop next s
 word-back s at word next e t = is-part s at word (length word) refl next e (has-part s at word t)
 
 -- ---- a field
@@ -81,13 +83,6 @@ module _ (s : List ℕ) (at : ℕ) (word : List ℕ) (w : ℕ) where
   pub field-lt : (v : ℕ) → fieldAfter s at word w ≡ Field v → v < 10 ^ w
   field-lt v h = field-back v (at + length word + w) refl h .1
 
-  -- and it ends within the bytes
-  pub field-room : (v : ℕ) → 0 < length word → fieldAfter s at word w ≡ Field v → at + length word + w ≤ length s
-  field-room v some h =
-      let k = at + length word + w in
-      let e = ap length (field-back v k refl h .0) in
-      omega (arith, e, length-drop at s, length-drop k s, length-append word (digits w v ++ drop k s), length-append (digits w v) (drop k s), length-digits w v)
-
 -- ---- a word and digits that were written
 
 pub wrote-after : (d : List ℕ) (at : ℕ) (word : List ℕ) (w n : ℕ) {f e : List ℕ} {a r : ℕ} → Wrote d at word f a → Wrote f a (digits w n) e r
@@ -97,3 +92,31 @@ wrote-after d at word w n v u = record {
   next = omega (arith, v .next, u .next, length-digits w n);
   kept = wrote-length u ∙ wrote-length v;
 }
+
+-- ---- where a field was read the word goes on, and where it was not the word stops
+
+module _ (R : Type 0) (x stop : R) where
+  pub digits-read : (go : ℕ → R) (d e : DigitsRead) (v : ℕ) → d ≡ e → d ≡ Value v → x ≡ go v → x ≡ onDigits e stop go
+  digits-read go d e v p q h = rw (sym p ∙ q) h
+
+  pub no-digits : (go : ℕ → R) (d e : DigitsRead) → d ≡ e → d ≡ NotDigits → x ≡ stop → x ≡ onDigits e stop go
+  no-digits go d e p q h = rw (sym p ∙ q) h
+
+  pub field-read : (go : ℕ → R) (d e : FieldRead) (v : ℕ) → d ≡ e → d ≡ Field v → x ≡ go v → x ≡ onField e stop go
+  field-read go d e v p q h = rw (sym p ∙ q) h
+
+  pub no-field : (go : ℕ → R) (d e : FieldRead) → d ≡ e → d ≡ NoField → x ≡ stop → x ≡ onField e stop go
+  no-field go d e p q h = rw (sym p ∙ q) h
+
+-- a field of two digits
+pub two : (s : List ℕ) (at : ℕ) (word : List ℕ) (d : FieldRead) (v : ℕ) → d ≡ fieldAfter s at word 2 → d ≡ Field v → v < 100
+two s at word d v p q = field-lt s at word 2 v (sym p ∙ q)
+
+-- where a field was read, it ends within the bytes
+pub read-room : (s : List ℕ) (at : ℕ) (word : List ℕ) (w : ℕ) (d : FieldRead) (v : ℕ) → 0 < length word → d ≡ fieldAfter s at word w → d ≡ Field v
+    → at + length word + w ≤ length s
+read-room s at word w d v some p q =
+    let k = at + length word + w in
+    omega (arith, simp (length-append, length-drop, length-digits) at (ap length (field-back s at word w v k refl (sym p ∙ q) .0)))
+
+pub ruleset fields = (choose, digits-read, no-digits, field-read, no-field, two)

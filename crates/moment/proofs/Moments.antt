@@ -1,6 +1,6 @@
--- A moment that is there reads as what was written, and a moment that was read is there.
+-- A moment that is there reads as what was written, a moment that was read is there, and what the answers say in the form in which readers ask for it.
 use Prim.Native.Nat.{ℕ, _+_, _*_, _/_, _%_, _≤_, _<_}
-use mathlib.Core.Path.{_≡_, refl, ap, _∙_, subst, subst₂}
+use mathlib.Core.Path.{_≡_, refl, sym, ap, _∙_, subst₂}
 use mathlib.Core.Bool.{true}
 use mathlib.Core.List.{List, _++_, append-assoc}
 use native.Mathlib.Omega.{arith}
@@ -15,8 +15,9 @@ use Rattle.decimal.proofs.Laws.{length-digits}
 use Rattle.calendar.specs.Calendar.{realDate, realTime}
 use Rattle.calendar.proofs.Laws.{date-lt, time-lt}
 use Rattle.labelled.specs.Labelled.{fieldAfter, WroteAfter}
+use Rattle.labelled.specs.declared.FieldRead.{FieldRead}
 use Rattle.labelled.specs.declared.FieldRead.the-variants.{Field, NoField}
-use Rattle.labelled.proofs.Fields.{not-field, field-same, test-on, field-on, field-done, field-back}
+use Rattle.labelled.proofs.Fields.{not-field, field-same, test-on, field-on, field-done, field-back, fields}
 use Rattle.moment.specs.Moment.{realMoment, timeBytes, momentBytes}
 use Rattle.moment.specs.Reading.{timeAfter, momentAfter, onMoment}
 use Rattle.moment.specs.declared.MomentRead.{MomentRead}
@@ -34,7 +35,7 @@ length-moment date time = simp (length-append, length-digits) (omega arith)
 -- ---- the time
 
 -- a time's fields after a word, one after the other
-pub time-fields : (word a b c d e ys : List ℕ) → word ++ ((a ++ b ++ c ++ d ++ e) ++ ys) ≡ word ++ (a ++ (b ++ (c ++ (d ++ (e ++ ys)))))
+time-fields : (word a b c d e ys : List ℕ) → word ++ ((a ++ b ++ c ++ d ++ e) ++ ys) ≡ word ++ (a ++ (b ++ (c ++ (d ++ (e ++ ys)))))
 time-fields word a b c d e ys = simp append-assoc
 
 -- hours, minutes and seconds are the digits of the time
@@ -42,9 +43,12 @@ parts : (hour minute second : ℕ) → hour < 100 → minute < 100 → second < 
     → (hour ≡ time / 10000) × (minute ≡ time / 100 % 100) × (second ≡ time % 100)
 parts hour minute second h m x time e = omega arith
 
-joined : (word : List ℕ) (hour minute second time : ℕ) (ys : List ℕ) → (hour ≡ time / 10000) × (minute ≡ time / 100 % 100) × (second ≡ time % 100)
+joined : (word : List ℕ) (hour minute second time : ℕ) (ys : List ℕ)
+    → (hour ≡ time / 10000) × (minute ≡ time / 100 % 100) × (second ≡ time % 100)
     → word ++ (timeBytes time ++ ys) ≡ word ++ (digits 2 hour ++ (ascii ":" ++ (digits 2 minute ++ (ascii ":" ++ (digits 2 second ++ ys)))))
-joined word hour minute second time ys (h, m, x) = rw (h, m, x) (time-fields word (digits 2 (time / 10000)) (ascii ":") (digits 2 (time / 100 % 100)) (ascii ":") (digits 2 (time % 100)) ys)
+joined word hour minute second time ys (h, m, x) =
+    rw (h, m, x)
+    (time-fields word (digits 2 (time / 10000)) (ascii ":") (digits 2 (time / 100 % 100)) (ascii ":") (digits 2 (time % 100)) ys)
 
 module _ (s : List ℕ) (at : ℕ) (word : List ℕ) where
   pub time-done : (time : ℕ) (ys : List ℕ) → time < 1000000 → drop at s ≡ word ++ (timeBytes time ++ ys) → timeAfter s at word ≡ Field time
@@ -79,10 +83,13 @@ module _ (s : List ℕ) (at : ℕ) (word : List ℕ) where
       let (d1, b1) = field-back s (at + length word + 2) (ascii ":") 2 minute (at + length word + 2 + 3) (omega arith) q in
       let (d2, b2) = field-back s (at + length word + 2 + 3) (ascii ":") 2 second next (omega arith) u in
       let e = field-same h3 in
-      let fields = parts hour minute second b0 b1 b2 time e in
-      (rw (joined word hour minute second time (drop next s) fields, d0, d1, d2), omega arith)
+      let digits-are = parts hour minute second b0 b1 b2 time e in
+      (rw (joined word hour minute second time (drop next s) digits-are, d0, d1, d2), omega arith)
 
 -- ---- the moment
+
+three-fields : (word a b c ys : List ℕ) → word ++ ((a ++ b ++ c) ++ ys) ≡ word ++ (a ++ (b ++ (c ++ ys)))
+three-fields word a b c ys = simp append-assoc
 
 -- a reader that went on with a moment
 pub moment-on : {R : Type 0} (stop r : R) → (stop ≡ r → ⊥) → (d : MomentRead) (go : ℕ → ℕ → R) → onMoment d stop go ≡ r
@@ -91,12 +98,9 @@ moment-on stop r never (Moment date time) go h = (date, time, refl, h)
 moment-on stop r never NoMoment go h = absurd (never h)
 
 module _ (s : List ℕ) (at : ℕ) (word : List ℕ) where
-  fields : (a b c ys : List ℕ) → word ++ ((a ++ b ++ c) ++ ys) ≡ word ++ (a ++ (b ++ (c ++ ys)))
-  fields a b c ys = simp append-assoc
-
   moment-fields : (date time : ℕ) (ys : List ℕ) → word ++ (momentBytes date time ++ ys) ≡ word ++ (digits 8 date ++ (ascii " " ++ (timeBytes time ++ ys)))
   unfolding momentBytes
-  moment-fields date time ys = fields (digits 8 date) (ascii " ") (timeBytes time) ys
+  moment-fields date time ys = three-fields word (digits 8 date) (ascii " ") (timeBytes time) ys
 
   pub moment-done : (date time : ℕ) (ys : List ℕ) → realMoment date time ≡ true → drop at s ≡ word ++ (momentBytes date time ++ ys)
       → momentAfter s at word ≡ Moment date time
@@ -127,14 +131,6 @@ module _ (s : List ℕ) (at : ℕ) (word : List ℕ) where
       subst₂ (λ (d t : ℕ). (drop at s ≡ word ++ (momentBytes d t ++ drop next s)) × (realMoment d t ≡ true)) e f
       (rw (moment-fields d t (drop next s), d0, d1), real)
 
-  -- and it ends within the bytes
-  pub moment-room : (date time : ℕ) → 0 < length word → momentAfter s at word ≡ Moment date time → at + length word + 17 ≤ length s
-  moment-room date time some h =
-      let k = at + length word + 17 in
-      let e = ap length (moment-back date time k refl h .0) in
-      let m = momentBytes date time in
-      omega (arith, e, length-drop at s, length-drop k s, length-append word (m ++ drop k s), length-append m (drop k s), length-moment date time)
-
 -- ---- written field by field
 
 pub wrote-time : (d f g e : List ℕ) (at a b r : ℕ) (word : List ℕ) (time : ℕ) → WroteAfter d at word 2 (time / 10000) f a
@@ -145,3 +141,24 @@ pub wrote-moment : (d f e : List ℕ) (at a r : ℕ) (word : List ℕ) (date tim
     → Wrote d at (word ++ momentBytes date time) e r
 unfolding momentBytes
 wrote-moment d f e at a r word date time u v = as-bytes (then (u .wrote) v) (simp append-assoc)
+
+-- ---- where a moment was read the word goes on, and where it was not the word stops
+
+module _ (R : Type 0) (x stop : R) where
+  pub moment-read : (go : ℕ → ℕ → R) (d e : MomentRead) (date time : ℕ) → d ≡ e → d ≡ Moment date time → x ≡ go date time → x ≡ onMoment e stop go
+  moment-read go d e date time p q h = rw (sym p ∙ q) h
+
+  pub no-moment : (go : ℕ → ℕ → R) (d e : MomentRead) → d ≡ e → d ≡ NoMoment → x ≡ stop → x ≡ onMoment e stop go
+  no-moment go d e p q h = rw (sym p ∙ q) h
+
+pub time-of : (r : FieldRead) (t u : ℕ) → r ≡ Field t → t ≡ u → r ≡ Field u
+time-of r t u p q = p ∙ ap Field q
+
+-- where a moment was read, it ends within the bytes
+pub moment-room : (s : List ℕ) (at : ℕ) (word : List ℕ) (d : MomentRead) (date time : ℕ) → 0 < length word → d ≡ momentAfter s at word
+    → d ≡ Moment date time → at + length word + 17 ≤ length s
+moment-room s at word d date time some p q =
+    let k = at + length word + 17 in
+    omega (arith, simp (length-append, length-drop, length-moment) at (ap length (moment-back s at word date time k refl (sym p ∙ q) .0)))
+
+pub ruleset moments = (fields, moment-read, no-moment, time-of)

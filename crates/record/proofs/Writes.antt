@@ -8,26 +8,30 @@ use lib.Dec.{eqb, leb}
 use lib.ListN.{length}
 use borrow.Author.Tests.{leb-true, eq-eqb, ne-eqb}
 use Rattle.laws.proofs.Choose.{and-left, and-right, choose}
-use Rattle.counts.specs.Limits.{commands, textBytes, classMost, codeMost}
+use Rattle.counts.specs.Limits.{textBytes, classMost, codeMost}
 use Rattle.counts.proofs.Results.{first-way}
 use Rattle.counts.specs.Result.{refused, done}
 use Rattle.field.specs.Bytes.{ascii}
 use Rattle.field.specs.Part.{Wrote}
 use Rattle.field.proofs.Put.{then, as-bytes}
-use Rattle.decimal.specs.Digits.{plainWidth, plain}
+use Rattle.decimal.specs.Digits.{digits, plainWidth, plain}
+use Rattle.labelled.specs.Labelled.{WroteAfter}
 use Rattle.scan.specs.Kinds.{isTextByte}
 use Rattle.scan.specs.Run.{runEnd}
 use Rattle.moment.specs.Moment.{realMoment, momentBytes}
 use Rattle.record.specs.Record.{Content, content, isText, isOutcome, inRange, outcomeBytes, recordBytes, fixedLength}
 use Rattle.record.specs.Writing.{Fits, writeRefusal, written, writtenBytes}
 use Rattle.record.specs.declared.Outcome.{Outcome}
+use Rattle.record.specs.declared.Outcome.the-variants.{Error}
 use Rattle.record.proofs.Lengths.{length-fields, length-record}
 
 -- ---- what the tests give
 
 pub error-range : (class code : ℕ) → (leb class classMost && leb code codeMost) ≡ true → (class ≤ classMost) × (code ≤ codeMost)
-error-range class code h =
-    (leb-true class classMost (and-left (leb class classMost) (leb code codeMost) h), leb-true code codeMost (and-right (leb class classMost) (leb code codeMost) h))
+error-range class code h = (
+  leb-true class classMost (and-left (leb class classMost) (leb code codeMost) h),
+  leb-true code codeMost (and-right (leb class classMost) (leb code codeMost) h),
+)
 
 pub record Ranges (limit n : ℕ) (o : Outcome) (text : List ℕ) : Type 0 where
   pub low : 1 ≤ n
@@ -81,16 +85,23 @@ module _ (limit : ℕ) (c : Content) where
 
 -- ---- a record, field by field
 
-pub room-of : (n : ℕ) (o : Outcome) (text : List ℕ) (date time at : ℕ) (out : List ℕ) → Fits commands (content n o text date time) at out
-    → at + (8 + plainWidth n + length (outcomeBytes o) + length text + 22) ≤ length out
-room-of n o text date time at out p = omega (arith, p .room, length-fields (content n o text date time))
+pub room-of : {limit : ℕ} {c : Content} {at : ℕ} {out : List ℕ} → Fits limit c at out
+    → at + (8 + plainWidth (c .number) + length (outcomeBytes (c .outcome)) + length (c .text) + 22) ≤ length out
+room-of {c = c} p = omega (arith, p .room, length-fields c)
 
 regroup : (a b c d e : List ℕ) → a ++ b ++ (c ++ d) ++ e ≡ a ++ b ++ c ++ d ++ e
 regroup a b c d e = simp append-assoc
 
-pub wrote-fields : (d f g h k e : List ℕ) (at a b i j r n : ℕ) (o : Outcome) (text : List ℕ) (date time : ℕ) → Wrote d at (ascii "COMMAND " ++ plain n) f a
-    → Wrote f a (outcomeBytes o) g b → Wrote g b text h i → Wrote h i (ascii "\" " ++ momentBytes date time) k j → Wrote k j (ascii ";\r\n") e r
+pub wrote-fields : (d f g h k e : List ℕ) (at a b i j r n w : ℕ) (o : Outcome) (text : List ℕ) (date time : ℕ) → w ≡ plainWidth n
+    → WroteAfter d at (ascii "COMMAND ") w n f a → Wrote f a (outcomeBytes o) g b → Wrote g b text h i
+    → Wrote h i (ascii "\" " ++ momentBytes date time) k j → Wrote k j (ascii ";\r\n") e r
     → Wrote d at (recordBytes (content n o text date time)) e r
-unfolding recordBytes
-wrote-fields d f g h k e at a b i j r n o text date time p q t u v =
-    as-bytes (then (then (then (then p q) t) u) v) (regroup (ascii "COMMAND " ++ plain n ++ outcomeBytes o) text (ascii "\" ") (momentBytes date time) (ascii ";\r\n"))
+unfolding recordBytes plain
+wrote-fields d f g h k e at a b i j r n w o text date time is p q t u v =
+    let number = as-bytes (p .wrote) (ap (λ (x : ℕ). ascii "COMMAND " ++ digits x n) is) in
+    as-bytes (then (then (then (then number q) t) u) v)
+    (regroup (ascii "COMMAND " ++ plain n ++ outcomeBytes o) text (ascii "\" ") (momentBytes date time) (ascii ";\r\n"))
+
+pub wrote-error : (d f g e : List ℕ) (at a b r class code : ℕ) → WroteAfter d at (ascii " ERROR ") 2 class f a → WroteAfter f a (ascii " ") 8 code g b
+    → Wrote g b (ascii " \"") e r → Wrote d at (outcomeBytes (Error class code)) e r
+wrote-error d f g e at a b r class code p q t = as-bytes (then (then (p .wrote) (q .wrote)) t) (simp append-assoc)

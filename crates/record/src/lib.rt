@@ -15,7 +15,7 @@ ghost use lib.ListN.{length};
 ghost use Rattle.counts.specs.Limits.{commands, textBytes, classMost, codeMost};
 ghost use Rattle.field.specs.Part.{Wrote};
 ghost use Rattle.decimal.specs.Digits.{plainWidth};
-ghost use Rattle.record.specs.Record.{content, isText, isOutcome, inRange, outcomeBytes, recordBytes, fixedLength};
+ghost use Rattle.record.specs.Record.{content, isOutcome, inRange, outcomeBytes, recordBytes, fixedLength};
 ghost use Rattle.record.specs.Writing.{Fits, writeRefusal, written, writtenBytes, writeSays};
 
 // What a command came to: PROCESSED, or ERROR with class and code.
@@ -38,17 +38,12 @@ pub fn is_outcome(outcome: Outcome) -> bool
     }
 }
 
-fn is_text(text: &[u8]) -> bool
-    ensures { λ r. ⌜ r ≡ isText (now (text .entry)) ⌝ }
-{
-    (text.len() <= TEXT_BYTES) & scan::is_all_text(text)
-}
-
 fn in_range(number: CommandNumber, outcome: Outcome, text: &[u8]) -> bool
     ensures { λ r. ⌜ r ≡ inRange commands (number .0) outcome (now (text .entry)) ⌝ }
 {
     let n = number.0;
-    (1 <= n) & (n <= COMMANDS) & is_outcome(outcome) & is_text(text)
+    let text_fits = (text.len() <= TEXT_BYTES) & scan::is_all_text(text);
+    (1 <= n) & (n <= COMMANDS) & is_outcome(outcome) & text_fits
 }
 
 fn fixed_length(outcome: Outcome) -> usize
@@ -145,10 +140,10 @@ pub fn write_record(
 ) -> Written
     ensures { λ r. ⌜ (writeSays r ≡ written commands (content (number .0) outcome (now (text .entry)) date time) (now (out .entry))) × (now (out .exit) ≡ writtenBytes commands (content (number .0) outcome (now (text .entry)) date time) (now (out .entry))) ⌝ }
 {
-    let no = write_refusal(number, outcome, date, time, text, out.len());
-    if no == 0 {
+    let refused = write_refusal(number, outcome, date, time, text, out.len());
+    if refused == 0 {
         Written::Bytes(put_record(out, 0, number, outcome, date, time, text))
     } else {
-        Written::Refused(Refusal::plain(no))
+        Written::Refused(Refusal::plain(refused))
     }
 }

@@ -20,7 +20,7 @@ use Rattle.labelled.specs.Labelled.{fieldAfter}
 use Rattle.record_read.specs.Reading.{errorRead, outcomeRead}
 use Rattle.record.specs.declared.Outcome.{Outcome}
 use Rattle.record.specs.declared.Outcome.the-variants.{Processed, Error}
-use Rattle.record_read.specs.declared.OutcomeRead.the-variants.{Found, NoOutcome}
+use Rattle.record_read.specs.declared.OutcomeRead.the-variants.{Opens, NoOutcome}
 use Rattle.record.proofs.Lengths.{outcomeLength}
 use Rattle.labelled.proofs.Fields.{test-on, field-on, word-back, field-done, field-back}
 
@@ -30,7 +30,7 @@ unfolding hasAt same part
 not-processed s at ys h = rw h
 
 pub outcome-done : (s : List ℕ) (at : ℕ) (o : Outcome) (ys : List ℕ) → isOutcome o ≡ true → drop at s ≡ outcomeBytes o ++ ys
-    → outcomeRead s at ≡ Found o (at + outcomeLength o)
+    → outcomeRead s at ≡ Opens o (at + outcomeLength o)
 unfolding outcomeRead errorRead
 outcome-done s at Processed ys ok h = rw (then-has s at (ascii " PROCESSED \"") ys h)
 outcome-done s at (Error class code) ys ok h =
@@ -54,19 +54,19 @@ pub record OutcomeIs (s : List ℕ) (at : ℕ) (o : Outcome) (start : ℕ) : Typ
   pub ok : isOutcome o ≡ true
   pub next : start ≡ at + outcomeLength o
 
-found : {p o : Outcome} {k start : ℕ} (s : List ℕ) (at : ℕ) → OutcomeIs s at p k → Found p k ≡ Found o start → OutcomeIs s at o start
+found : {p o : Outcome} {k start : ℕ} (s : List ℕ) (at : ℕ) → OutcomeIs s at p k → Opens p k ≡ Opens o start → OutcomeIs s at o start
 found {p} {o} {k} {start} s at i h =
     let e : p ≡ o = cc in
     let f : k ≡ start = cc in
     subst (λ (q : Outcome). OutcomeIs s at q start) e (subst (λ (m : ℕ). OutcomeIs s at p m) f i)
 
-nothing : {o : Outcome} {start : ℕ} → NoOutcome ≡ Found o start → ⊥
+nothing : {o : Outcome} {start : ℕ} → NoOutcome ≡ Opens o start → ⊥
 nothing h = let z : _≡_ {A = ℕ} 0 1 = cc in omega arith
 
-error-back : (s : List ℕ) (at : ℕ) (o : Outcome) (start : ℕ) → errorRead s at ≡ Found o start → OutcomeIs s at o start
+error-back : (s : List ℕ) (at : ℕ) (o : Outcome) (start : ℕ) → errorRead s at ≡ Opens o start → OutcomeIs s at o start
 unfolding errorRead
 error-back s at o start h =
-    let r = Found o start in
+    let r = Opens o start in
     let (class, p, h1) = field-on NoOutcome r nothing (fieldAfter s at (ascii " ERROR ") 2) _ h in
     let (code, q, h2) = field-on NoOutcome r nothing (fieldAfter s (at + 9) (ascii " ") 8) _ h1 in
     let (t, h3) = test-on NoOutcome r nothing (hasAt s (at + 18) (ascii " \"")) _ h2 in
@@ -81,11 +81,11 @@ error-back s at o start h =
     })
     h3
 
-pub outcome-back : (s : List ℕ) (at : ℕ) (o : Outcome) (start : ℕ) → outcomeRead s at ≡ Found o start → OutcomeIs s at o start
+pub outcome-back : (s : List ℕ) (at : ℕ) (o : Outcome) (start : ℕ) → outcomeRead s at ≡ Opens o start → OutcomeIs s at o start
 unfolding outcomeRead
 outcome-back s at o start h = go (hasAt s at (ascii " PROCESSED \"")) refl h
   where
-    go : (b : Bool) → hasAt s at (ascii " PROCESSED \"") ≡ b → cond b (Found Processed (at + 12)) (errorRead s at) ≡ Found o start
+    go : (b : Bool) → hasAt s at (ascii " PROCESSED \"") ≡ b → cond b (Opens Processed (at + 12)) (errorRead s at) ≡ Opens o start
         → OutcomeIs s at o start
     go true t e = found s at (record { bytes = word-back s at (ascii " PROCESSED \"") (at + 12) refl t; ok = refl; next = refl }) e
     go false t e = error-back s at o start e

@@ -28,7 +28,7 @@ use Rattle.record_read.specs.declared.FirstRecord.{FirstRecord}
 use Rattle.record_read.specs.declared.FirstRecord.the-variants.{Ends, NoRecord}
 use Rattle.record.proofs.Lengths.{length-record}
 use Rattle.record.proofs.Writes.{not-refused}
-use Rattle.record_read.proofs.Standing.{recordOf, record-done, content-same, record-back, Was}
+use Rattle.record_read.proofs.Standing.{readAs, record-done, content-same, record-back, Was}
 
 -- ---- the statements
 
@@ -48,7 +48,9 @@ WriteThenRead =
 
 -- only permitted records are written, and in full
 abbrev pub WrittenPermitted : Type 0
-WrittenPermitted = (limit : ℕ) (c : Content) (out : List ℕ) (k : ℕ) → written limit c out ≡ done k → (permitted limit c ≡ true) × (k ≡ lengthOf c) × (k ≤ length out)
+WrittenPermitted =
+    (limit : ℕ) (c : Content) (out : List ℕ) (k : ℕ) → written limit c out ≡ done k
+    → (permitted limit c ≡ true) × (k ≡ lengthOf c) × (k ≤ length out)
 
 -- "The reader takes one whole record and nothing beyond. Any other bytes get 7": bytes read as c exactly where c is permitted and they are its bytes
 abbrev pub ReadExactly : Type 0
@@ -64,7 +66,9 @@ ReadThenWrite =
 
 -- a record that reads is a permitted one, and its text lies within the bytes
 abbrev pub ReadPermitted : Type 0
-ReadPermitted = (limit : ℕ) (s : List ℕ) (r : Record) → recordRead limit s ≡ done r → (permitted limit (contentOf s r) ≡ true) × (r .start + r .length ≤ length s)
+ReadPermitted =
+    (limit : ℕ) (s : List ℕ) (r : Record) → recordRead limit s ≡ done r
+    → (permitted limit (contentOf s r) ≡ true) × (r .start + r .length ≤ length s)
 
 -- "Any other bytes get 7": the reader gives no other number, and no place
 abbrev pub OnlySeven : Type 0
@@ -95,7 +99,7 @@ at-exactly limit most s at c e = (
       subst (λ (d : Content). Begins limit s at d e) same (was .ok, then-has s at (recordBytes (contentOf s r)) (drop e s) (was .bytes), was .next),
   λ (ok, there, last).
       let h = has-then s at (recordBytes c) there in
-      (recordOf at c, record-done s at c _ h limit most ok ∙ ap (Ends (recordOf at c)) (sym last), content-same s at c _ h),
+      (readAs at c, record-done s at c _ h limit most ok ∙ ap (Ends (readAs at c)) (sym last), content-same s at c _ h),
 )
 
 same-end : {q r : Record} {e f : ℕ} → Ends q e ≡ Ends r f → (q ≡ r) × (e ≡ f)
@@ -140,9 +144,9 @@ written-permitted limit c out k h =
 -- ---- the two trips
 
 -- a whole record begins the bytes, and ends where they end
-ends-there : (limit : ℕ) (s : List ℕ) (r : Record) → recordRead limit s ≡ done r → Was limit s 0 r (length s)
+whole : (limit : ℕ) (s : List ℕ) (r : Record) → recordRead limit s ≡ done r → Was limit s 0 r (length s)
 unfolding recordRead
-ends-there limit s r h = go (recordAt limit s 0) refl h
+whole limit s r h = go (recordAt limit s 0) refl h
   where
     go : (d : FirstRecord) → recordAt limit s 0 ≡ d
         → onRecord d (refused notARecord 0) (λ q e. cond (eqb e (length s)) (done q) (refused notARecord 0)) ≡ done r → Was limit s 0 r (length s)
@@ -152,19 +156,8 @@ ends-there limit s r h = go (recordAt limit s 0) refl h
         record-back limit s 0 r (length s) (p ∙ ap₂ Ends is (eqb-true e (length s) t))
     go NoRecord p f = absurd (refused-not-done f)
 
-record Whole (limit : ℕ) (s : List ℕ) (r : Record) : Type 0 where
-  pub bytes : s ≡ recordBytes (contentOf s r)
-  pub ok : permitted limit (contentOf s r) ≡ true
-  pub inside : r .start + r .length ≤ length s
-
-whole : (limit : ℕ) (s : List ℕ) (r : Record) → recordRead limit s ≡ done r → Whole limit s r
-whole limit s r h =
-    let was = ends-there limit s r h in
-    record {
-      bytes = was .bytes ∙ ap (λ (l : List ℕ). recordBytes (contentOf s r) ++ l) (drop-length s) ∙ append-nil (recordBytes (contentOf s r));
-      ok = was .ok;
-      inside = was .text;
-    }
+whole-bytes : (limit : ℕ) (s : List ℕ) (r : Record) → Was limit s 0 r (length s) → s ≡ recordBytes (contentOf s r)
+whole-bytes limit s r was = was .bytes ∙ simp (drop-length, append-nil)
 
 reads : (limit : ℕ) → limit < 100000000 → (c : Content) → permitted limit c ≡ true
     → withText (recordBytes c) (recordRead limit (recordBytes c)) ≡ done c
@@ -187,7 +180,7 @@ read-exactly limit most s c = (
   λ h.
       let (r, e, same) = with-text s (recordRead limit s) c h in
       let was = whole limit s r e in
-      (subst (λ (d : Content). permitted limit d ≡ true) same (was .ok), was .bytes ∙ ap recordBytes same),
+      (subst (λ (d : Content). permitted limit d ≡ true) same (was .ok), whole-bytes limit s r was ∙ ap recordBytes same),
   λ h. rw (h .1) (reads limit most c (h .0)),
 )
 
@@ -201,12 +194,13 @@ pub read-then-write : ReadThenWrite
 read-then-write limit s r out h room =
     let was = whole limit s r h in
     let c = contentOf s r in
-    let e : length (recordBytes c) ≡ length s = ap length (sym (was .bytes)) in
+    let bytes = whole-bytes limit s r was in
+    let e : length (recordBytes c) ≡ length s = ap length (sym bytes) in
     let there : length (recordBytes c) ≤ length out = omega arith in
-    (writes limit c out (was .ok) there ∙ ap done e, ap (part (writtenBytes limit c out) 0) (sym e) ∙ leaves limit c out (was .ok) there ∙ sym (was .bytes))
+    (writes limit c out (was .ok) there ∙ ap done e, ap (part (writtenBytes limit c out) 0) (sym e) ∙ leaves limit c out (was .ok) there ∙ sym bytes)
 
 pub read-permitted : ReadPermitted
-read-permitted limit s r h = let was = whole limit s r h in (was .ok, was .inside)
+read-permitted limit s r h = let was = whole limit s r h in (was .ok, was .text)
 
 pub only-seven : OnlySeven
 unfolding recordRead

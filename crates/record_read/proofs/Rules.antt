@@ -12,14 +12,14 @@ use Rattle.counts.specs.Result.{refused}
 use Rattle.counts.specs.declared.CommandNumber.{CommandNumber}
 use Rattle.labelled.specs.Labelled.{onField}
 use Rattle.labelled.specs.declared.FieldRead.{FieldRead}
-use Rattle.moment.proofs.Rules.{moments}
+use Rattle.moment.proofs.Moments.{moments}
 use Rattle.record.specs.declared.Outcome.{Outcome}
 use Rattle.record_read.specs.Reading.{commandSays, onOutcome, onRecord, outcomeRead, numberIn, restRead, readSays}
 use Rattle.record_read.specs.declared.Record.{Record}
 use Rattle.record_read.specs.declared.CommandRead.{CommandRead}
 use Rattle.record_read.specs.declared.CommandRead.the-variants.{Command, NoCommand}
 use Rattle.record_read.specs.declared.OutcomeRead.{OutcomeRead}
-use Rattle.record_read.specs.declared.OutcomeRead.the-variants.{Found, NoOutcome}
+use Rattle.record_read.specs.declared.OutcomeRead.the-variants.{Opens, NoOutcome}
 use Rattle.record_read.specs.declared.FirstRecord.{FirstRecord}
 use Rattle.record_read.specs.declared.FirstRecord.the-variants.{Ends, NoRecord}
 use Rattle.record_read.specs.declared.RecordRead.{RecordRead}
@@ -33,7 +33,7 @@ module _ (R : Type 0) (x stop : R) where
   pub no-command : (go : ℕ → R) (d : CommandRead) (e : FieldRead) → commandSays d ≡ e → d ≡ NoCommand → x ≡ stop → x ≡ onField e stop go
   no-command go d e p q h = rw (sym p ∙ ap commandSays q) h
 
-  pub outcome-read : (go : Outcome → ℕ → R) (d e : OutcomeRead) (o : Outcome) (next : ℕ) → d ≡ e → d ≡ Found o next → x ≡ go o next
+  pub outcome-read : (go : Outcome → ℕ → R) (d e : OutcomeRead) (o : Outcome) (next : ℕ) → d ≡ e → d ≡ Opens o next → x ≡ go o next
       → x ≡ onOutcome e stop go
   outcome-read go d e o next p q h = rw (sym p ∙ q) h
 

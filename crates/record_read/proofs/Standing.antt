@@ -28,9 +28,9 @@ use Rattle.record.specs.declared.Outcome.{Outcome}
 use Rattle.record.specs.declared.Outcome.the-variants.{Processed, Error}
 use Rattle.record.proofs.Lengths.{outcomeLength, length-outcome, length-plain, length-fields}
 use Rattle.record.proofs.Writes.{ranges, short-text}
-use Rattle.record_read.specs.Reading.{onOutcome, numberIn, numberRead, outcomeRead, restRead, textRead, recordAt, contentOf}
+use Rattle.record_read.specs.Reading.{onOutcome, numberIn, outcomeRead, restRead, recordAt, contentOf}
 use Rattle.record_read.specs.declared.OutcomeRead.{OutcomeRead}
-use Rattle.record_read.specs.declared.OutcomeRead.the-variants.{Found, NoOutcome}
+use Rattle.record_read.specs.declared.OutcomeRead.the-variants.{Opens, NoOutcome}
 use Rattle.record_read.specs.declared.Record.{Record}
 use Rattle.record_read.specs.declared.FirstRecord.{FirstRecord}
 use Rattle.record_read.specs.declared.FirstRecord.the-variants.{Ends, NoRecord}
@@ -40,8 +40,8 @@ use Rattle.record_read.proofs.Texts.{text-end, TextIs, text-back, digit
 -- ---- the number
 
 number-done : (limit : ℕ) (s : List ℕ) (at n : ℕ) (ys : List ℕ) → 1 ≤ n → n ≤ limit → limit < 100000000
-    → drop at s ≡ ascii "COMMAND " ++ (plain n ++ 32 ∷ ys) → numberRead limit s at ≡ Field n
-unfolding numberRead numberIn plain
+    → drop at s ≡ ascii "COMMAND " ++ (plain n ++ 32 ∷ ys) → numberIn limit s at (runEnd isDigit s (at + 8) - (at + 8)) ≡ Field n
+unfolding numberIn plain
 number-done limit s at n ys low high most h =
     let w = plainWidth n in
     let d = rest-is s at (ascii "COMMAND ") 8 refl (digits w n ++ 32 ∷ ys) (at + 8) refl h in
@@ -129,8 +129,8 @@ rest-back s n o start end r e h =
 -- ---- the whole
 
 outcome-on : {r : Record} {e : ℕ} (d : OutcomeRead) (go : Outcome → ℕ → FirstRecord) → onOutcome d NoRecord go ≡ Ends r e
-    → (o : Outcome) × (start : ℕ) × (d ≡ Found o start) × (go o start ≡ Ends r e)
-outcome-on (Found o start) go h = (o, start, refl, h)
+    → (o : Outcome) × (start : ℕ) × (d ≡ Opens o start) × (go o start ≡ Ends r e)
+outcome-on (Opens o start) go h = (o, start, refl, h)
 outcome-on NoOutcome go h = absurd (never h)
 
 -- an outcome begins with a space
@@ -157,22 +157,23 @@ startOf : ℕ → Content → ℕ
 startOf at c = at + 8 + plainWidth (c .number) + outcomeLength (c .outcome)
 
 -- the record that a content is read as there
-pub recordOf : ℕ → Content → Record
-recordOf at c = taken (c .number) (c .outcome) (startOf at c) (length (c .text)) (c .date) (c .time)
+pub readAs : ℕ → Content → Record
+readAs at c = taken (c .number) (c .outcome) (startOf at c) (length (c .text)) (c .date) (c .time)
 
 module _ (s : List ℕ) (at : ℕ) (c : Content) (ys : List ℕ) (h : drop at s ≡ recordBytes c ++ ys) where
   -- the outcome stands after the number, and the text after the outcome
-  fields-there : (drop (at + 8 + plainWidth (c .number)) s ≡ outcomeBytes (c .outcome) ++ (c .text ++ closing c ys)) × (drop (startOf at c) s ≡ c .text ++ closing c ys)
+  fields-there : (drop (at + 8 + plainWidth (c .number)) s ≡ outcomeBytes (c .outcome) ++ (c .text ++ closing c ys))
+      × (drop (startOf at c) s ≡ c .text ++ closing c ys)
   unfolding startOf
   fields-there =
       let w = plainWidth (c .number) in
       let o = c .outcome in
-      let d1 = rest-is s at (ascii "COMMAND ") 8 refl (plain (c .number) ++ (outcomeBytes o ++ (c .text ++ closing c ys))) (at + 8) refl (h ∙ record-fields c ys) in
-      let d2 = rest-is s (at + 8) (plain (c .number)) w (length-plain (c .number)) (outcomeBytes o ++ (c .text ++ closing c ys)) (at + 8 + w) refl d1 in
-      (d2, rest-is s (at + 8 + w) (outcomeBytes o) (outcomeLength o) (length-outcome o) (c .text ++ closing c ys) (at + 8 + w + outcomeLength o) refl d2)
+      let d1 = rest-is s at (ascii "COMMAND ") 8 refl _ (at + 8) refl (h ∙ record-fields c ys) in
+      let d2 = rest-is s (at + 8) (plain (c .number)) w (length-plain (c .number)) _ (at + 8 + w) refl d1 in
+      (d2, rest-is s (at + 8 + w) (outcomeBytes o) (outcomeLength o) (length-outcome o) _ (at + 8 + w + outcomeLength o) refl d2)
 
-  pub record-done : (limit : ℕ) → limit < 100000000 → permitted limit c ≡ true → recordAt limit s at ≡ Ends (recordOf at c) (at + length (recordBytes c))
-  unfolding recordAt textRead permitted recordOf closing startOf
+  pub record-done : (limit : ℕ) → limit < 100000000 → permitted limit c ≡ true → recordAt limit s at ≡ Ends (readAs at c) (at + length (recordBytes c))
+  unfolding recordAt permitted readAs closing startOf
   record-done limit most ok =
       let n = c .number in
       let o = c .outcome in
@@ -196,8 +197,8 @@ module _ (s : List ℕ) (at : ℕ) (c : Content) (ys : List ℕ) (h : drop at s 
       )
 
   -- what that record says of the bytes is the content
-  pub content-same : contentOf s (recordOf at c) ≡ c
-  unfolding recordOf taken
+  pub content-same : contentOf s (readAs at c) ≡ c
+  unfolding readAs taken
   content-same =
       ap (λ (l : List ℕ). content (c .number) (c .outcome) l (c .date) (c .time))
       (part-is s (startOf at c) (c .text) (length (c .text)) refl (closing c ys) (fields-there .1))
@@ -229,14 +230,15 @@ put-together limit s at n o start end r e number outcome text rest =
     })
 
 pub record-back : (limit : ℕ) (s : List ℕ) (at : ℕ) (r : Record) (e : ℕ) → recordAt limit s at ≡ Ends r e → Was limit s at r e
-unfolding recordAt textRead numberRead
+unfolding recordAt
 record-back limit s at r e h =
-    let (n, p, h1) = field-on NoRecord (Ends r e) never (numberRead limit s at) _ h in
+    let w = runEnd isDigit s (at + 8) - (at + 8) in
+    let (n, p, h1) = field-on NoRecord (Ends r e) never (numberIn limit s at w) _ h in
     let (o, start, q, h2) = outcome-on (outcomeRead s (at + 8 + plainWidth n)) _ h1 in
     let end = runEnd isTextByte s start in
     let rest = rest-back s n o start end r e h2 in
     put-together limit s at n o start end r e
-    (number-in limit s at (runEnd isDigit s (at + 8) - (at + 8)) n p)
+    (number-in limit s at w n p)
     (outcome-back s (at + 8 + plainWidth n) o start q)
     (text-back s start (rest .small))
     rest

@@ -15,6 +15,7 @@ use Rattle.decimal.specs.Digits.{digits}
 use Rattle.decimal.proofs.Laws.{length-digits}
 use Rattle.scan.specs.Kinds.{isDigit, isTextByte}
 use Rattle.scan.specs.Run.{run, runEnd}
+use Rattle.scan.proofs.Runs.{run-fits}
 use Rattle.record.specs.Record.{isText}
 
 -- ---- runs
@@ -32,15 +33,6 @@ module _ (p : ℕ → Bool) where
       go more true e = ap suc (more (omega arith))
       go more false e = absurd (omega arith)
 
-  run-le : (xs : List ℕ) → run p xs ≤ length xs
-  unfolding run
-  run-le [] = omega arith
-  run-le (x ∷ xs) = go (run-le xs) (p x)
-    where
-      go : run p xs ≤ length xs → (b : Bool) → elim b [ true ↦ suc (run p xs) | false ↦ 0 ] ≤ suc (length xs)
-      go le true = omega arith
-      go le false = omega arith
-
   -- the bytes of a run are a run
   run-take : (xs : List ℕ) → run p (take (run p xs) xs) ≡ run p xs
   unfolding run
@@ -53,9 +45,9 @@ module _ (p : ℕ → Bool) where
       go more false e = refl
 
   -- from the very start
-  run-whole : (xs : List ℕ) → runEnd p xs 0 ≡ run p xs
+  run-from-start : (xs : List ℕ) → runEnd p xs 0 ≡ run p xs
   unfolding runEnd
-  run-whole xs = omega arith
+  run-from-start xs = omega arith
 
   run-one : (x : ℕ) (xs : List ℕ) → p x ≡ true → run p (x ∷ xs) ≡ suc (run p xs)
   unfolding run
@@ -66,12 +58,12 @@ module _ (p : ℕ → Bool) where
 whole-text : (text : List ℕ) → isText text ≡ true → run isTextByte text ≡ length text
 unfolding isText
 whole-text text ok =
-    sym (run-whole isTextByte text)
+    sym (run-from-start isTextByte text)
     ∙ eqb-true (runEnd isTextByte text 0) (length text) (and-right (leb (length text) textBytes) (eqb (runEnd isTextByte text 0) (length text)) ok)
 
 text-ok : (text : List ℕ) → length text ≤ textBytes → run isTextByte text ≡ length text → isText text ≡ true
 unfolding isText
-text-ok text small whole = and-both (le-leb (length text) textBytes small) (eq-eqb (runEnd isTextByte text 0) (length text) (run-whole isTextByte text ∙ whole))
+text-ok text small whole = and-both (le-leb (length text) textBytes small) (eq-eqb (runEnd isTextByte text 0) (length text) (run-from-start isTextByte text ∙ whole))
 
 module _ (s : List ℕ) (start : ℕ) where
   -- a quote ends it
@@ -93,7 +85,7 @@ module _ (s : List ℕ) (start : ℕ) where
       let l = drop start s in
       let w = run isTextByte l in
       let e : start + w - start ≡ w = omega arith in
-      let long : length (take w l) ≡ w = length-take-le w l (run-le isTextByte l) in
+      let long : length (take w l) ≡ w = length-take-le w l (run-fits isTextByte l) in
       record {
         from = omega arith;
         ok = rw e (text-ok (take w l) (omega arith) (run-take isTextByte l ∙ sym long));

@@ -23,7 +23,7 @@ use Rattle.record_read.specs.declared.Record.{Record}
 use Rattle.record_read.specs.declared.CommandRead.{CommandRead}
 use Rattle.record_read.specs.declared.CommandRead.the-variants.{Command, NoCommand}
 use Rattle.record_read.specs.declared.OutcomeRead.{OutcomeRead}
-use Rattle.record_read.specs.declared.OutcomeRead.the-variants.{Found, NoOutcome}
+use Rattle.record_read.specs.declared.OutcomeRead.the-variants.{Opens, NoOutcome}
 use Rattle.record_read.specs.declared.FirstRecord.{FirstRecord}
 use Rattle.record_read.specs.declared.FirstRecord.the-variants.{Ends, NoRecord}
 use Rattle.record_read.specs.declared.RecordRead.{RecordRead}
@@ -34,7 +34,7 @@ use Rattle.record_read.specs.declared.RecordRead.the-variants.{Taken, Re
 
 -- going on with what was read, or stopping where it is not there
 abbrev pub onOutcome : {R : Type 0} → OutcomeRead → R → (Outcome → ℕ → R) → R
-onOutcome (Found outcome next) stop go = go outcome next
+onOutcome (Opens outcome next) stop go = go outcome next
 onOutcome NoOutcome stop go = stop
 
 abbrev pub onRecord : {R : Type 0} → FirstRecord → R → (Record → ℕ → R) → R
@@ -54,20 +54,16 @@ numberIn limit s at w =
     cond (leb 1 n && leb n limit && eqb (plainWidth n) w) (Field n) NoField)
     NoField
 
--- in all digits that stand there
-unfoldable pub numberRead : ℕ → List ℕ → ℕ → FieldRead
-numberRead limit s at = numberIn limit s at (runEnd isDigit s (at + 8) - (at + 8))
-
 -- ERROR with class and code, and the place after the quote that opens the text
 unfoldable pub errorRead : List ℕ → ℕ → OutcomeRead
 errorRead s at =
     onField (fieldAfter s at (ascii " ERROR ") 2) NoOutcome λ class.
     onField (fieldAfter s (at + 9) (ascii " ") 8) NoOutcome λ code.
-    cond (hasAt s (at + 18) (ascii " \"")) (Found (Error class code) (at + 20)) NoOutcome
+    cond (hasAt s (at + 18) (ascii " \"")) (Opens (Error class code) (at + 20)) NoOutcome
 
 -- PROCESSED, or that
 unfoldable pub outcomeRead : List ℕ → ℕ → OutcomeRead
-outcomeRead s at = cond (hasAt s at (ascii " PROCESSED \"")) (Found Processed (at + 12)) (errorRead s at)
+outcomeRead s at = cond (hasAt s at (ascii " PROCESSED \"")) (Opens Processed (at + 12)) (errorRead s at)
 
 -- what follows the text, which runs from start to end; the text is given by its place and length
 unfoldable pub restRead : List ℕ → ℕ → Outcome → ℕ → ℕ → FirstRecord
@@ -79,16 +75,13 @@ restRead s n outcome start end =
     NoRecord)
     NoRecord
 
--- the text: all bytes of a string's content from start on
-unfoldable pub textRead : List ℕ → ℕ → Outcome → ℕ → FirstRecord
-textRead s n outcome start = restRead s n outcome start (runEnd isTextByte s start)
-
--- the record that the bytes from at on begin with, and the place after it
+-- the record that the bytes from at on begin with, and the place after it: the number in all digits that stand there, the text all bytes of a string's
+-- content
 unfoldable pub recordAt : ℕ → List ℕ → ℕ → FirstRecord
 recordAt limit s at =
-    onField (numberRead limit s at) NoRecord λ n.
+    onField (numberIn limit s at (runEnd isDigit s (at + 8) - (at + 8))) NoRecord λ n.
     onOutcome (outcomeRead s (at + 8 + plainWidth n)) NoRecord λ outcome start.
-    textRead s n outcome start
+    restRead s n outcome start (runEnd isTextByte s start)
 
 -- "The reader takes one whole record and nothing beyond. Any other bytes get 7"
 unfoldable pub recordRead : ℕ → List ℕ → Result Record

@@ -12,8 +12,7 @@ ghost use Prim.Native.Nat.{_+_, _≤_};
 ghost use lib.ListN.{length};
 ghost use Rattle.counts.specs.Limits.{commands};
 ghost use Rattle.counts.specs.Refusals.{notARecord, refusal};
-ghost use Rattle.decimal.specs.Digits.{plainWidth};
-ghost use Rattle.record_read.specs.Reading.{commandSays, numberIn, numberRead, errorRead, outcomeRead, restRead, textRead, recordAt, recordRead, readSays, textOf};
+ghost use Rattle.record_read.specs.Reading.{commandSays, numberIn, outcomeRead, restRead, recordAt, recordRead, readSays, textOf};
 
 // A record as it was read: its text is the length bytes of the input from start on.
 pub struct Record {
@@ -44,7 +43,7 @@ enum CommandRead {
 }
 
 enum OutcomeRead {
-    Found(Outcome, usize),
+    Opens(Outcome, usize),
     NoOutcome,
 }
 
@@ -63,19 +62,14 @@ fn number_in(s: &[u8], at: usize, width: usize) -> CommandRead
     CommandRead::NoCommand
 }
 
-// Reads COMMAND and the number in all digits that stand after it.
-fn number_at(s: &[u8], at: usize) -> CommandRead
-    requires { ⌜ at ≤ length (now s) ⌝ }
-    ensures { λ r. ⌜ commandSays r ≡ numberRead commands (now (s .entry)) at ⌝ }
-{
-    number_in(s, at, scan::run_end(s, at + 8, scan::DIGIT) - (at + 8))
-}
-
-// Reads ERROR with class and code, and the quote that opens the text.
-fn error_at(s: &[u8], at: usize) -> OutcomeRead
+// Reads PROCESSED, or ERROR with class and code, and the quote that opens the text.
+fn outcome_at(s: &[u8], at: usize) -> OutcomeRead
     requires { ⌜ at ≤ length (now s) + 24 ⌝ }
-    ensures { λ r. ⌜ r ≡ errorRead (now (s .entry)) at ⌝ }
+    ensures { λ r. ⌜ r ≡ outcomeRead (now (s .entry)) at ⌝ }
 {
+    if field::has_at(s, at, b" PROCESSED \"") {
+        return OutcomeRead::Opens(Outcome::Processed, at + 12);
+    }
     let FieldRead::Field(class) = labelled::field_after(s, at, b" ERROR ", 2) else {
         return OutcomeRead::NoOutcome;
     };
@@ -83,29 +77,9 @@ fn error_at(s: &[u8], at: usize) -> OutcomeRead
         return OutcomeRead::NoOutcome;
     };
     if field::has_at(s, at + 18, b" \"") {
-        return OutcomeRead::Found(Outcome::Error(class, code), at + 20);
+        return OutcomeRead::Opens(Outcome::Error(class, code), at + 20);
     }
     OutcomeRead::NoOutcome
-}
-
-// Reads the outcome, and the quote that opens the text.
-fn outcome_at(s: &[u8], at: usize) -> OutcomeRead
-    requires { ⌜ at ≤ length (now s) + 24 ⌝ }
-    ensures { λ r. ⌜ r ≡ outcomeRead (now (s .entry)) at ⌝ }
-{
-    if field::has_at(s, at, b" PROCESSED \"") {
-        return OutcomeRead::Found(Outcome::Processed, at + 12);
-    }
-    error_at(s, at)
-}
-
-// The outcome after the number.
-fn outcome_after(s: &[u8], at: usize, number: CommandNumber) -> OutcomeRead
-    requires { ⌜ at ≤ length (now s) ⌝ }
-    ensures { λ r. ⌜ r ≡ outcomeRead (now (s .entry)) (at + 8 + plainWidth (number .0)) ⌝ }
-{
-    let n = number.0;
-    outcome_at(s, at + 8 + decimal::plain_width(n as u64))
 }
 
 // Reads what follows the text, which runs from start to end.
@@ -139,31 +113,23 @@ fn rest_at(
     FirstRecord::NoRecord
 }
 
-// Reads the text and what follows it.
-fn text_at(s: &[u8], number: CommandNumber, outcome: Outcome, start: usize) -> FirstRecord
-    ensures { λ r. ⌜ r ≡ textRead (now (s .entry)) (number .0) outcome start ⌝ }
-{
-    rest_at(
-        s,
-        number,
-        outcome,
-        start,
-        scan::run_end(s, start, scan::TEXT),
-    )
-}
-
 // Reads the record that the bytes from at on begin with.
 pub fn record_at(bytes: &[u8], at: usize) -> FirstRecord
     requires { ⌜ at ≤ length (now bytes) ⌝ }
     ensures { λ r. ⌜ r ≡ recordAt commands (now (bytes .entry)) at ⌝ }
 {
-    let CommandRead::Command(number) = number_at(bytes, at) else {
+    let digits = at + 8;
+    let width = scan::run_end(bytes, digits, scan::DIGIT) - digits;
+    let CommandRead::Command(number) = number_in(bytes, at, width) else {
         return FirstRecord::NoRecord;
     };
-    let OutcomeRead::Found(outcome, start) = outcome_after(bytes, at, number) else {
+    let n = number.0;
+    let after_number = digits + decimal::plain_width(n as u64);
+    let OutcomeRead::Opens(outcome, start) = outcome_at(bytes, after_number) else {
         return FirstRecord::NoRecord;
     };
-    text_at(bytes, number, outcome, start)
+    let end = scan::run_end(bytes, start, scan::TEXT);
+    rest_at(bytes, number, outcome, start, end)
 }
 
 fn no_record() -> RecordRead

@@ -2,8 +2,7 @@
 use mathlib.Core.Path.{sym, _∙_}
 use native.Mathlib.Omega.{arith}
 use Rattle.field.proofs.Same.{has-room}
-use Rattle.labelled.proofs.Fields.{eight}
-use Rattle.labelled.proofs.Rules.{fields}
+use Rattle.labelled.proofs.Fields.{eight, fields}
 use Rattle.labelled.specs.Labelled.{fieldAfter}
 use borrow.Author.Needs.{needs}
 use Rattle.labelled.proofs.field_after.Statement.{statement}

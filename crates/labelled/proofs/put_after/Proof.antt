@@ -14,7 +14,7 @@ same-length : tie.Need-same-length
 same-length c = search needs
 
 returns : tie.Need-returns
-returns c = wrote-after _ _ _ _ _ (c .before .before .before .before .before .before .put-bytes .ensures) (c .before .before .put-digits .ensures)
+returns c = search wrote-after
 
 pub put-after-spec : {M : Type 1} → statement M
 put-after-spec = tie.close (tie.spec put-bytes-requires put-digits-requires same-length returns)

@@ -1,7 +1,8 @@
 -- `moment::moment_after` meets its contract.
 use native.Mathlib.Omega.{arith}
+use Rattle.labelled.proofs.Fields.{read-room}
 use Rattle.moment.specs.Reading.{momentAfter}
-use Rattle.moment.proofs.Rules.{moments, read-room}
+use Rattle.moment.proofs.Moments.{moments}
 use borrow.Author.Needs.{needs}
 use Rattle.moment.proofs.moment_after.Statement.{statement}
 use Rattle.moment.proofs.moment_after.Tie as tie

@@ -18,8 +18,7 @@ same-length : tie.Need-same-length
 same-length c = search needs
 
 returns : tie.Need-returns
-returns c =
-    wrote-moment _ _ _ _ _ _ _ _ _ (c .before .before .before .before .before .before .before .put-after .ensures) (c .before .before .put-time .ensures)
+returns c = search wrote-moment
 
 pub put-moment-spec : {M : Type 1} → statement M
 put-moment-spec =

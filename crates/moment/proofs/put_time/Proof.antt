@@ -23,10 +23,7 @@ same-length : tie.Need-same-length
 same-length c = search needs
 
 returns : tie.Need-returns
-returns c =
-    let first = c .before .before .before .before .before .before .before .before .before .before .before .before .put-after .ensures in
-    let second = c .before .before .before .before .before .before .before .put-after2 .ensures in
-    wrote-time _ _ _ _ _ _ _ _ _ _ first second (c .before .before .put-after3 .ensures)
+returns c = search wrote-time
 
 pub put-time-spec : {M : Type 1} → statement M
 put-time-spec =

@@ -1,7 +1,8 @@
 -- `moment::time_after` meets its contract.
 use native.Mathlib.Omega.{arith}
+use Rattle.labelled.proofs.Fields.{read-room}
 use Rattle.moment.specs.Reading.{timeAfter}
-use Rattle.moment.proofs.Rules.{moments, read-room}
+use Rattle.moment.proofs.Moments.{moments}
 use borrow.Author.Needs.{needs}
 use Rattle.moment.proofs.time_after.Statement.{statement}
 use Rattle.moment.proofs.time_after.Tie as tie
@@ -42,7 +43,9 @@ unfolding timeAfter
 returns-2 c = search moments depth 9
 
 add-field-after : tie.Need-add-field-after
-add-field-after c = omega (arith, read-room _ _ _ 2 _ _ (omega arith) (c .before .before .before .before .before .before .before .before .field-after .ensures) (c .before .before .before .before .before .before .hour .given .1))
+add-field-after c =
+    let read = c .before .before .before .before .before .before .before .before .field-after .ensures in
+    omega (arith, read-room _ _ _ 2 _ _ (omega arith) read (c .before .before .before .before .before .before .hour .given .1))
 
 slice-aggregate-field-after-2 : tie.Need-slice-aggregate-field-after-2
 slice-aggregate-field-after-2 c = search needs

@@ -1,13 +1,6 @@
 -- `record::put_record` meets its contract.
-use Prim.Native.Nat.{ℕ}
-use mathlib.Core.Path.{ap}
-use mathlib.Core.List.{_++_}
 use native.Mathlib.Omega.{arith}
-use denote.Ref.{now}
-use Rattle.counts.specs.Limits.{commands}
-use Rattle.field.specs.Bytes.{ascii}
-use Rattle.field.proofs.Put.{as-bytes, wrote-length}
-use Rattle.decimal.specs.Digits.{digits, plain}
+use Rattle.field.proofs.Put.{wrote-length}
 use Rattle.decimal.proofs.PlainLaws.{plain-fits}
 use Rattle.moment.proofs.Moments.{length-moment}
 use Rattle.record.proofs.Lengths.{ten-digits}
@@ -27,73 +20,50 @@ plain-width-requires c κs = search needs
 
 put-after-requires : tie.Need-put-after-requires
 put-after-requires c κs =
-    let a = c .before .before .before .before .before .args in
-    let p = c .before .before .before .before .before .pre in
-    let room = room-of (a .number .0) (a .outcome) (now (a .text)) (a .date) (a .time) (a .at) (now (a .out)) p in
     let w = c .plain-width .ensures in
-    (omega (arith, ten-digits _ _ (omega arith) w), rw w (plain-fits (a .number .0)), omega arith)
+    (omega (arith, ten-digits _ _ (omega arith) w), rw w (plain-fits (c .before .before .before .before .before .args .number .0)), omega (arith, room-of))
 
 put-outcome-requires : tie.Need-put-outcome-requires
 put-outcome-requires c κs =
-    let a = c .before .before .before .before .before .before .before .before .before .args in
     let p = c .before .before .before .before .before .before .before .before .before .pre in
-    let room = room-of (a .number .0) (a .outcome) (now (a .text)) (a .date) (a .time) (a .at) (now (a .out)) p in
-    let w = c .before .before .before .before .plain-width .ensures in
-    let first = c .before .before .before .put-after .ensures in
-    (ranges commands (a .number .0) (a .outcome) (now (a .text)) (p .range) .outcome, omega arith)
+    (ranges _ _ _ _ (p .range) .outcome, omega (arith, room-of))
 
 put-bytes-requires : tie.Need-put-bytes-requires
-put-bytes-requires c κs =
-    let a = c .before .before .before .before .before .before .before .before .before .before .before .before .before .args in
-    let p = c .before .before .before .before .before .before .before .before .before .before .before .before .before .pre in
-    let room = room-of (a .number .0) (a .outcome) (now (a .text)) (a .date) (a .time) (a .at) (now (a .out)) p in
-    let w = c .before .before .before .before .before .before .before .before .plain-width .ensures in
-    let first = c .before .before .before .before .before .before .before .put-after .ensures in
-    let second = c .before .before .before .put-outcome .ensures in
-    omega (arith, wrote-length second)
+put-bytes-requires c κs = omega (arith, room-of, wrote-length)
 
 slice-aggregate-put-moment : tie.Need-slice-aggregate-put-moment
 slice-aggregate-put-moment c = search needs
 
 put-moment-requires : tie.Need-put-moment-requires
-put-moment-requires c κs =
-    let a = c .before .before .before .before .before .before .before .before .before .before .before .before .before .before .before .before .before .before .args in
-    let p = c .before .before .before .before .before .before .before .before .before .before .before .before .before .before .before .before .before .before .pre in
-    let room = room-of (a .number .0) (a .outcome) (now (a .text)) (a .date) (a .time) (a .at) (now (a .out)) p in
-    let w = c .before .before .before .before .before .before .before .before .before .before .before .before .before .plain-width .ensures in
-    let first = c .before .before .before .before .before .before .before .before .before .before .before .before .put-after .ensures in
-    let second = c .before .before .before .before .before .before .before .before .put-outcome .ensures in
-    let third = c .before .before .before .before .put-bytes .ensures in
-    (p .real, omega (arith, wrote-length second, wrote-length third))
+put-moment-requires c κs = (
+  c .before .before .before .before .before .before .before .before .before .before .before .before
+      .before .before .before .before .before .before .pre .real,
+  omega (arith, room-of, wrote-length),
+)
 
 slice-aggregate-put-bytes : tie.Need-slice-aggregate-put-bytes
 slice-aggregate-put-bytes c = search needs
 
 put-bytes-requires-2 : tie.Need-put-bytes-requires-2
 put-bytes-requires-2 c κs =
-    let a = c .before .before .before .before .before .before .before .before .before .before .before .before .before .before .before .before .before .before .before .before .before .before .before .args in
-    let p = c .before .before .before .before .before .before .before .before .before .before .before .before .before .before .before .before .before .before .before .before .before .before .before .pre in
-    let room = room-of (a .number .0) (a .outcome) (now (a .text)) (a .date) (a .time) (a .at) (now (a .out)) p in
-    let w = c .before .before .before .before .before .before .before .before .before .before .before .before .before .before .before .before .before .before .plain-width .ensures in
-    let first = c .before .before .before .before .before .before .before .before .before .before .before .before .before .before .before .before .before .put-after .ensures in
-    let second = c .before .before .before .before .before .before .before .before .before .before .before .before .before .put-outcome .ensures in
-    let third = c .before .before .before .before .before .before .before .before .before .put-bytes .ensures in
-    let fourth = c .before .before .before .before .put-moment .ensures in
-    omega (arith, length-moment (a .date) (a .time), wrote-length second, wrote-length third, wrote-length fourth)
+    let a = c .before .before .before .before .before .before .before .before .before .before .before .before
+    .before .before .before .before .before .before .before .before .before .before .before .args in
+    omega (arith, room-of, wrote-length, length-moment (a .date) (a .time))
 
 same-length : tie.Need-same-length
 same-length c = search needs
 
 returns : tie.Need-returns
-unfolding plain
 returns c =
-    let n = c .before .before .before .before .before .before .before .before .before .before .before .before .before .before .before .before .before .before .before .before .before .before .before .before .before .before .args .number .0 in
-    let w = c .before .before .before .before .before .before .before .before .before .before .before .before .before .before .before .before .before .before .before .before .before .plain-width .ensures in
-    let first = as-bytes (c .before .before .before .before .before .before .before .before .before .before .before .before .before .before .before .before .before .before .before .before .put-after .ensures .wrote) (ap (λ (k : ℕ). ascii "COMMAND " ++ digits k n) w) in
-    let second = c .before .before .before .before .before .before .before .before .before .before .before .before .before .before .before .before .put-outcome .ensures in
+    let w = c .before .before .before .before .before .before .before .before .before .before .before .before
+    .before .before .before .before .before .before .before .before .before .plain-width .ensures in
+    let first = c .before .before .before .before .before .before .before .before .before .before .before .before
+    .before .before .before .before .before .before .before .before .put-after .ensures in
+    let second = c .before .before .before .before .before .before .before .before .before .before .before .before
+    .before .before .before .before .put-outcome .ensures in
     let third = c .before .before .before .before .before .before .before .before .before .before .before .before .put-bytes .ensures in
     let fourth = c .before .before .before .before .before .before .before .put-moment .ensures in
-    wrote-fields _ _ _ _ _ _ _ _ _ _ _ _ _ _ _ _ _ first second third fourth (c .before .before .put-bytes2 .ensures)
+    wrote-fields _ _ _ _ _ _ _ _ _ _ _ _ _ _ _ _ _ _ w first second third fourth (c .before .before .put-bytes2 .ensures)
 
 pub put-record-spec : {M : Type 1} → statement M
 put-record-spec =

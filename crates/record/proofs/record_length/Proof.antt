@@ -15,10 +15,14 @@ plain-width-requires : tie.Need-plain-width-requires
 plain-width-requires c κs = search needs
 
 add-result : tie.Need-add-result
-add-result c = omega (arith, ten-digits _ _ (omega arith) (c .plain-width .ensures), fixed-le (c .before .before .args .outcome) _ (c .before .fixed-length .ensures))
+add-result c =
+    let fixed = fixed-le (c .before .before .args .outcome) _ (c .before .fixed-length .ensures) in
+    omega (arith, ten-digits _ _ (omega arith) (c .plain-width .ensures))
 
 add-result-2 : tie.Need-add-result-2
-add-result-2 c = omega (arith, ten-digits _ _ (omega arith) (c .plain-width .ensures), fixed-le (c .before .before .args .outcome) _ (c .before .fixed-length .ensures))
+add-result-2 c =
+    let fixed = fixed-le (c .before .before .args .outcome) _ (c .before .fixed-length .ensures) in
+    omega (arith, ten-digits _ _ (omega arith) (c .plain-width .ensures))
 
 returns : tie.Need-returns
 returns c = search needs

@@ -33,9 +33,10 @@ returns c =
 returns-2 : tie.Need-returns-2
 returns-2 c =
     let a = c .before .before .before .before .before .args in
-    let no = c .before .before .write-refusal in
-    rw (c .plain .ensures, no .ensures)
-    (refused-record commands (content (a .number .0) (a .outcome) (now (a .text)) (a .date) (a .time)) (now (a .out)) (λ e. c .before .if1 .left (no .ensures ∙ e)))
+    let refused = c .before .before .write-refusal in
+    rw (c .plain .ensures, refused .ensures)
+    (refused-record commands (content (a .number .0) (a .outcome) (now (a .text)) (a .date) (a .time)) (now (a .out))
+    (λ e. c .before .if1 .left (refused .ensures ∙ e)))
 
 pub write-record-spec : {M : Type 1} → statement M
 write-record-spec =

@@ -17,7 +17,8 @@ is-real-requires c κs = search needs
 record-length-requires : tie.Need-record-length-requires
 record-length-requires c κs =
     let a = c .before .before .before .before .before .args in
-    short-text (now (a .text)) (ranges commands (a .number .0) (a .outcome) (now (a .text)) (sym (c .before .before .before .in-range .ensures) ∙ c .before .before .if1 .taken) .string)
+    let range = sym (c .before .before .before .in-range .ensures) ∙ c .before .before .if1 .taken in
+    short-text (now (a .text)) (ranges commands (a .number .0) (a .outcome) (now (a .text)) range .string)
 
 returns : tie.Need-returns
 unfolding writeRefusal

@@ -1,6 +1,5 @@
 -- `record_read::record_text` meets its contract.
 use native.Mathlib.Omega.{arith}
-use denote.Ref.{now}
 use Rattle.record_read.proofs.Shown.{no-text, the-text, text-inside}
 use borrow.Author.Needs.{needs}
 use Rattle.record_read.proofs.record_text.Statement.{statement}
@@ -25,7 +24,7 @@ part-result-end : tie.Need-part-result-end
 part-result-end c = search needs
 
 returns : tie.Need-returns
-returns c = no-text (now (c .before .before .before .before .before .args .bytes)) _ _ (c .before .before .before .read-record .ensures) _ (c .before .enum-told .given .1)
+returns c = search no-text
 
 add-end : tie.Need-add-end
 add-end c = omega (arith, text-inside _ _ (c .before .before .before .before .read-record .ensures) _ (c .before .before .«record» .given .1))
@@ -40,7 +39,7 @@ part-result-end-2 : tie.Need-part-result-end-2
 part-result-end-2 c = omega (arith, text-inside _ _ (c .before .before .before .before .read-record .ensures) _ (c .before .before .«record» .given .1))
 
 returns-2 : tie.Need-returns-2
-returns-2 c = the-text (now (c .before .before .before .before .before .before .before .args .bytes)) _ _ (c .before .before .before .before .before .read-record .ensures) _ (c .before .before .before .«record» .given .1)
+returns-2 c = search the-text
 
 pub record-text-spec : {M : Type 1} → statement M
 record-text-spec =

@@ -1,6 +1,6 @@
 -- `record_read::rest_at` meets its contract.
 use native.Mathlib.Omega.{arith}
-use Rattle.moment.proofs.Rules.{moment-within}
+use Rattle.moment.proofs.Moments.{moment-room}
 use Rattle.record_read.specs.Reading.{restRead}
 use Rattle.record_read.proofs.Rules.{reads}
 use borrow.Author.Needs.{needs}
@@ -27,7 +27,7 @@ unfolding restRead
 returns c = search reads depth 9
 
 add-has-at : tie.Need-add-has-at
-add-has-at c = omega (arith, moment-within _ _ _ _ _ _ (omega arith) (c .before .before .before .moment-after .ensures) (c .before .date .given .1))
+add-has-at c = omega (arith, moment-room _ _ _ _ _ _ (omega arith) (c .before .before .before .moment-after .ensures) (c .before .date .given .1))
 
 slice-aggregate-has-at : tie.Need-slice-aggregate-has-at
 slice-aggregate-has-at c = search needs
@@ -36,7 +36,9 @@ has-at-requires : tie.Need-has-at-requires
 has-at-requires c κs = search needs
 
 add-t20 : tie.Need-add-t20
-add-t20 c = omega (arith, moment-within _ _ _ _ _ _ (omega arith) (c .before .before .before .before .before .before .moment-after .ensures) (c .before .before .before .before .date .given .1))
+add-t20 c =
+    let read = c .before .before .before .before .before .before .moment-after .ensures in
+    omega (arith, moment-room _ _ _ _ _ _ (omega arith) read (c .before .before .before .before .date .given .1))
 
 returns-2 : tie.Need-returns-2
 unfolding restRead
