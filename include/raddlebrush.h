@@ -56,7 +56,7 @@ static inline uint32_t rb_place_of(uint32_t returned) { return returned / 256u; 
 #define RB_NAME_BYTES 12u     /* a session file's name */
 #define RB_RECORD_BYTES 307u  /* the longest record: ERROR, a number of two digits, a text of 255 bytes */
 #define RB_REPLY_BYTES 3319u  /* the longest reply: 64 ERROR records without text */
-#define RB_TABLE_BYTES 33296u /* a session table, for every MaxSessions */
+#define RB_TABLE_BYTES 33808u /* a session table, for every MaxSessions */
 
 /* ---- three counts kept apart: each is a structure of one number, so that a compiler refuses one where another is due. It is passed as
  * the number is, and where it lies the number lies. */
@@ -196,9 +196,11 @@ uint32_t rb_answer(uint8_t *table, size_t table_bytes, rb_ticket ticket, rb_comm
 uint32_t rb_collect(uint8_t *table, size_t table_bytes, uint32_t program, rb_ticket ticket, uint8_t *out, size_t room, size_t *count);
 
 /* A table's bytes, for who must look into one: rows of four numbers, each of four bytes, low byte first. Row 0: MaxSessions, the last
- * ticket, the number last taken up, and what is in hand (0, or one more than the session's number). Then for each session 65 rows. Its
- * head: program (0 where the number is open), command count, answers so far, ticket. A row for each command: 0 for PROCESSED or one more
- * than the class, the code, date, time. */
+ * ticket, the number last taken up (MaxSessions - 1 in a fresh table, so that 0 comes first), and what is in hand (0, or one more than the
+ * session's number). Then for each session 66 rows. Its head is two: whether the number is taken (0: open; all else: taken; 1 is written),
+ * program, command count, answers so far; the ticket, and three numbers that are spare. A row for each command: 0 for PROCESSED or one
+ * more than the class, the code, date, time. What else stands in the rows of an open number says nothing, nor does an answer beyond the
+ * answers so far, nor a spare number, nor the code of a PROCESSED. */
 
 #ifdef __cplusplus
 }

@@ -22,7 +22,7 @@ use Rattle.sessions.proofs.Past.{accepted-at}
 use Rattle.sessions.specs.History.{itself, other, Event, made, placed, tookUp, answered, collected, written, collectedAs, accepted, collections}
 use Rattle.sessions.specs.Owed.{ifRoom}
 use Rattle.sessions.specs.Records.{isDated, recordOf}
-use Rattle.sessions.specs.Sound.{isReal}
+use Rattle.sessions.specs.Sound.{inRangeAndReal}
 use Rattle.sessions.specs.Table.{within, records, place, takeUp, answer}
 use Rattle.sessions.specs.declared.Answer.{Answer}
 use Rattle.session_table.specs.Calls.{making, freshBytes, madeBytes}
@@ -61,7 +61,7 @@ module _ (b : List ℕ) (e : soundBytes b ≡ true) where
   unfolding stepBytes
   taken-holds = take-does b e
 
-  taken-answered : (s t c : ℕ) (a : Answer) → stepBytes b toTakeUp .0 ≡ tookUp (done (s, t, c)) → isReal a ≡ true
+  taken-answered : (s t c : ℕ) (a : Answer) → stepBytes b toTakeUp .0 ≡ tookUp (done (s, t, c)) → inRangeAndReal a ≡ true
       → stepBytes (stepBytes b toTakeUp .1) (toAnswer t c a) .0 ≡ answered t c a (done tt)
   taken-answered s t c a q real =
       let b′ = stepBytes b toTakeUp .1 in
@@ -100,8 +100,8 @@ module _ (b : List ℕ) (e : soundBytes b ≡ true) where
   refused-making-changes-nothing max q = rw q
 
 -- an answer that may be accepted is read from its record
-says : (c : ℕ) (a : Answer) → 1 ≤ c → c ≤ commands → isReal a ≡ true → Says (recordOf c a) c a
-unfolding isReal permitted inRange isText runEnd run
+says : (c : ℕ) (a : Answer) → 1 ≤ c → c ≤ commands → inRangeAndReal a ≡ true → Says (recordOf c a) c a
+unfolding inRangeAndReal permitted inRange isText runEnd run
 says c a low high real =
     let k = halves (isDated a) (isOutcome (a .outcome)) real in
     read-exactly commands (omega arith) (recordOf c a) (content c (a .outcome) [] (a .date) (a .time)) .1

@@ -15,9 +15,9 @@ use Rattle.record.specs.Record.{isReal, momentBytes, recordBytes}
 use Rattle.record.specs.declared.Outcome.the-variants.{Processed}
 use Rattle.sessions.proofs.Owing.{length-numbered}
 use Rattle.sessions.proofs.Past.{head-same, gather-append}
-use Rattle.sessions.specs.Find.{find, put}
+use Rattle.sessions.specs.Find.{find, replaced}
 use Rattle.sessions.specs.History.{Event, placed, tookUp, collected, written, gather, placing, placings}
-use Rattle.sessions.specs.Table.{State, fresh as freshState, isOpen, isWaiting, isReady, names, numbered, records, placeIn, place, takeNext, takeHand, takeUp, answerHand, answer, collectFrom, collect}
+use Rattle.sessions.specs.Table.{State, fresh as freshState, isOpen, isWaiting, isClosed, isReady, names, numbered, records, placeIn, place, takeNext, takeHand, takeUp, answerHand, answer, collectFrom, collect}
 use Rattle.sessions.specs.declared.Answer.{Answer}
 use Rattle.session_table.specs.Calls.{freshBytes}
 use Rattle.session_table.specs.Calls as calls
@@ -69,15 +69,15 @@ took-so : {r v : Result (ℕ × ℕ × ℕ)} → tookUp r ≡ tookUp v → r ≡
 took-so e = cc
 
 places-first : calls.placing (freshBytes 2) 1 1 ≡ done (0, 1)
-unfolding bytesAfter stepBytes stepWithout table freshState isOpen find put placeIn place
+unfolding bytesAfter stepBytes stepWithout table freshState isOpen find replaced placeIn place
 places-first = placed-so (gives 2 (omega arith) (omega arith) [] kept-none (toPlace 1 1) refl)
 
 gives-first : calls.takingUp (of-two placing-one) ≡ done (0, 1, 1)
-unfolding stepBytes stepWithout table freshState isOpen isWaiting find put placeIn place takeNext takeHand takeUp
+unfolding stepBytes stepWithout table freshState isOpen isWaiting find replaced placeIn place takeNext takeHand takeUp
 gives-first = took-so (gives 2 (omega arith) (omega arith) placing-one kept-one toTakeUp refl)
 
 pub hands-over-first : calls.collecting (of-two answering-one) 1 1 (length output) ≡ done (records (numbered 1 (processed ∷ [])))
-unfolding stepWithout table freshState isOpen isWaiting isReady find put names placeIn place takeNext takeHand takeUp answerHand answer collectFrom collect numbered records isReal februaryLength monthLength realDate realTime digits widthFrom plainWidth plain momentBytes recordBytes
+unfolding stepWithout table freshState isOpen isWaiting isClosed isReady find replaced names placeIn place takeNext takeHand takeUp answerHand answer collectFrom collect numbered records isReal februaryLength monthLength realDate realTime digits widthFrom plainWidth plain momentBytes recordBytes
 hands-over-first =
     collecting-is (of-two answering-one) (sound-after 2 (omega arith) (omega arith) answering-one kept) 1 1 output
     ∙ ap (λ (σ : State). collect σ 1 1 (length output) .0) (holds 2 (omega arith) (omega arith) answering-one kept)

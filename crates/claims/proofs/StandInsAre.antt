@@ -13,7 +13,7 @@ use Rattle.counts.specs.Result.{Result, refused, done, counted}
 use Rattle.decimal.specs.Digits.{digits, widthFrom, plainWidth, plain}
 use Rattle.statement.specs.declared.Statement.the-variants.{GetInfo}
 use Rattle.record.specs.Record.{isReal, momentBytes, recordBytes}
-use Rattle.sessions.specs.Find.{find, put}
+use Rattle.sessions.specs.Find.{find, replaced}
 use Rattle.sessions.specs.History.{Event, made, placed, tookUp, answered, collected, written, gather, collection, accepted}
 use Rattle.sessions.specs.Table.{fresh as freshState, isOpen, isWaiting, names, numbered, records, placeIn, place, takeNext, takeHand, takeUp, answerHand, answer}
 use Rattle.sessions.specs.declared.Answer.{Answer}
@@ -52,15 +52,15 @@ second-events : Answer → List Event
 second-events a = answered 2 1 a (done tt) ∷ tookUp (done (1, 2, 1)) ∷ placed 2 1 (done (1, 2)) ∷ first-events
 
 serves-first : historyOf (freshBytes 2) stepBytes answering-one ≡ first-events
-unfolding first-events history stepWithout table freshState isOpen isWaiting find put names placeIn place takeNext takeHand takeUp answerHand answer isReal februaryLength monthLength realDate realTime
+unfolding first-events history stepWithout table freshState isOpen isWaiting find replaced names placeIn place takeNext takeHand takeUp answerHand answer isReal februaryLength monthLength realDate realTime
 serves-first = computed 2 (omega arith) (omega arith) answering-one kept
 
 serves-processed : historyOf (freshBytes 2) stepBytes (second processed) ≡ second-events processed
-unfolding first-events second-events second history stepWithout table freshState isOpen isWaiting find put names placeIn place takeNext takeHand takeUp answerHand answer isReal februaryLength monthLength realDate realTime
+unfolding first-events second-events second history stepWithout table freshState isOpen isWaiting find replaced names placeIn place takeNext takeHand takeUp answerHand answer isReal februaryLength monthLength realDate realTime
 serves-processed = computed 2 (omega arith) (omega arith) (second processed) (second-kept processed)
 
 serves-failed : historyOf (freshBytes 2) stepBytes (second failed) ≡ second-events failed
-unfolding first-events second-events second history stepWithout table freshState isOpen isWaiting find put names placeIn place takeNext takeHand takeUp answerHand answer isReal februaryLength monthLength realDate realTime
+unfolding first-events second-events second history stepWithout table freshState isOpen isWaiting find replaced names placeIn place takeNext takeHand takeUp answerHand answer isReal februaryLength monthLength realDate realTime
 serves-failed = computed 2 (omega arith) (omega arith) (second failed) (second-kept failed)
 
 is-second : (a : Answer) {h : List Event} → h ≡ second-events a → Request h 2 2 (a ∷ [])

@@ -25,15 +25,16 @@ use Rattle.sessions.specs.Table.{State, within, place, placeIn, turn, takeUp, t
 use Rattle.sessions.specs.declared.Answer.{Answer}
 use Rattle.session_table.proofs.Answering.{Answerable, answerable, answer-hand, answer-leaves as answering-leaves}
 use Rattle.session_table.proofs.Collecting.{Collectable, collectable, collect-done, collect-leaves as collecting-leaves}
-use Rattle.session_table.proofs.Hands.{hand-empty, hand-full}
 use Rattle.session_table.proofs.Placing.{openIn, Placeable, placeable, place-leaves as placing-leaves}
 use Rattle.session_table.proofs.Turns.{nextIn, next-found, next-waits, next-leaves, again-leaves}
 use Rattle.session_table.specs.Calls.{only, after, making, madeBytes, placing, placedAt, placedBytes, takingUp, takenAt, takenBytes, answering, answeredAs, answeredBytes, collecting, collectedAt, collectedBytes, collectedOut, readyIn, inHand}
-use Rattle.table_layout.proofs.Numbers.{length-putNumber}
-use Rattle.table_layout.specs.Layout.{maxAt, lastAt, markAt, handAt, number, putNumber, putHead, putEntry}
+use Rattle.slot.specs.Fields.{slotOf}
+use Rattle.slot.specs.Stored.{putHead, putEntry, putSlot}
+use Rattle.table_layout.proofs.Numbers.{length-putNumber, length-putRow}
+use Rattle.table_layout.specs.Layout.{maxAt, lastAt, markAt, handAt, number, putNumber}
 use Rattle.table_search.proofs.Sounds.{sound-size, sound-table, waits, hand-waits}
-use Rattle.table_slot.specs.Slots.{putSlot}
-use Rattle.table_sound.specs.Bytes.{slotOf, abs, soundBytes}
+use Rattle.table_sound.proofs.Slots.{hand-empty, hand-full}
+use Rattle.table_sound.specs.Bytes.{abs, soundBytes}
 use Rattle.session_histories.proofs.Leaves.{place-leaves, take-leaves, collect-leaves}
 use Rattle.session_histories.proofs.Stored.{answer-leaves}
 use Rattle.session_histories.specs.Runs.{Call, toMake, toPlace, toTakeUp, toAnswer, toCollect, stepBytes, makesAnew}
@@ -88,7 +89,7 @@ module _ (b : List ℕ) (e : soundBytes b ≡ true) where
 
   taken-again : only (takingUp b) ≡ done tt → (number b handAt ≡ 0 → ⊥) → abs (takenBytes b) ≡ takeUp (abs b) .1
   unfolding takeUp takeHand
-  taken-again ok n = ap abs (sym (again-leaves b ok (number b handAt) refl n)) ∙ rw (hand-full b (number b handAt) refl n)
+  taken-again ok n = ap abs (sym (again-leaves b ok (number b handAt) refl n)) ∙ rw (hand-full (number b handAt) n)
 
   taken-next : only (takingUp b) ≡ done tt → number b handAt ≡ 0 → abs (takenBytes b) ≡ takeUp (abs b) .1
   unfolding takeUp takeHand takeNext
@@ -98,7 +99,7 @@ module _ (b : List ℕ) (e : soundBytes b ≡ true) where
       let w = waits b e s (next-waits b ok z i refl s refl) in
       ap abs (sym (next-leaves b ok z i refl s refl))
       ∙ take-leaves b e s (w .stands-there .below)
-      ∙ rw (hand-empty b (number b handAt) refl z, next-found b ok z i refl)
+      ∙ rw (hand-empty (number b handAt) z, next-found b ok z i refl)
 
   pub take-does : abs (takenBytes b) ≡ takeUp (abs b) .1
   unfolding takenBytes
@@ -118,7 +119,7 @@ module _ (b : List ℕ) (e : soundBytes b ≡ true) where
     unfolding answer answerHand
     stored w =
         let n = answer-hand b t c a w (number b handAt) refl in
-        let f = hand-full b (number b handAt) refl n in
+        let f = hand-full (number b handAt) n in
         let q : w .number-held ≡ inHand b = cc (w .hand, f) in
         let named : names (slotOf b (inHand b)) t c ≡ true = rw (← q) (w .named) in
         sym (ap (λ g. answerHand (abs b) t c a g .1) f ∙ rw (named, w .dated, w .in-range))
@@ -126,7 +127,7 @@ module _ (b : List ℕ) (e : soundBytes b ≡ true) where
     answered-done : (w : Answerable b t c a) → abs (answeredBytes b t c a) ≡ answer (abs b) t c a .1
     answered-done w =
         let n = answer-hand b t c a w (number b handAt) refl in
-        let k = waits b e (inHand b) (hand-waits b e (inHand b) (hand-full b (number b handAt) refl n)) in
+        let k = waits b e (inHand b) (hand-waits b e (inHand b) (hand-full (number b handAt) n)) in
         ap abs (sym (answering-leaves b t c a w (number b handAt) refl)) ∙ answer-leaves b e (inHand b) k a (w .dated) (w .in-range) ∙ stored w
 
     pub answer-does : abs (answeredBytes b t c a) ≡ answer (abs b) t c a .1
@@ -222,10 +223,10 @@ step-length : (b : List ℕ) (e : soundBytes b ≡ true) (c : Call) → makesAne
 unfolding stepBytes placedBytes takenBytes answeredBytes collectedBytes putHead putSlot putEntry
 step-length b e (toMake itself max) q = ap length (making-keeps b e max q)
 step-length b e (toMake (other m) max) q = refl
-step-length b e (toPlace p n) q = after-length (placing b p n) b (placedAt b p n) (λ r. simp length-putNumber)
+step-length b e (toPlace p n) q = after-length (placing b p n) b (placedAt b p n) (λ r. simp (length-putNumber, length-putRow))
 step-length b e toTakeUp q = after-length (takingUp b) b (takenAt b)
     (λ r. cond-length (eqb (number b handAt) 0) (putNumber (putNumber b markAt (r .0)) handAt (r .0 + 1)) b (simp length-putNumber))
-step-length b e (toAnswer t c a) q = after-length (answering b t c a) b (λ r. answeredAs b a) (λ r. simp length-putNumber)
+step-length b e (toAnswer t c a) q = after-length (answering b t c a) b (λ r. answeredAs b a) (λ r. simp (length-putNumber, length-putRow))
 step-length b e (toCollect p t out) q =
     after-length (collecting b p t (length out)) b (λ r. collectedAt b (readyIn b p t)) (λ r. simp length-putNumber)
 

@@ -17,7 +17,7 @@ use Rattle.sessions.proofs.SoundKept.{is-session}
 use Rattle.sessions.specs.Find.{Found, none, at, find}
 use Rattle.sessions.specs.History.{Event, placings, accepted}
 use Rattle.sessions.specs.Records.{isDated}
-use Rattle.sessions.specs.Sound.{isReal}
+use Rattle.sessions.specs.Sound.{inRangeAndReal}
 use Rattle.sessions.specs.Table.{State, isWaiting, lowest, turn, takeNext, takeHand, takeUp, names, answerHand, answer}
 use Rattle.sessions.specs.declared.Answer.{Answer}
 
@@ -27,8 +27,8 @@ record InHand (σ : State) (s t c : ℕ) : Type 0 where
   ticket : σ .slot s .ticket ≡ t
   command : lowest (σ .slot s) ≡ c
 
-accepts : (σ : State) (s t c : ℕ) (a : Answer) → InHand σ s t c → isReal a ≡ true → answer σ t c a .0 ≡ done tt
-unfolding answer answerHand names isReal
+accepts : (σ : State) (s t c : ℕ) (a : Answer) → InHand σ s t c → inRangeAndReal a ≡ true → answer σ t c a .0 ≡ done tt
+unfolding answer answerHand names inRangeAndReal
 accepts σ s t c a w real =
     let k = halves (isDated a) (isOutcome (a .outcome)) real in
     ap (λ f. answerHand σ t c a f .0) (w .hand) ∙ rw (eq-eqb _ _ (w .ticket), eq-eqb _ _ (w .command), k .0, k .1)
@@ -51,7 +51,7 @@ taken σ s t c = go (σ .hand) refl
         let q = ap (λ r. r .0) k in
         record { hand = h ∙ ap at q; ticket = ap (λ j. σ .slot j .ticket) (sym q) ∙ ap (λ r. r .1) k; command = ap (λ j. lowest (σ .slot j)) (sym q) ∙ ap (λ r. r .2) k }
 
-pub taken-is-answered : (σ : State) (s t c : ℕ) (a : Answer) → takeUp σ .0 ≡ done (s, t, c) → isReal a ≡ true → answer (takeUp σ .1) t c a .0 ≡ done tt
+pub taken-is-answered : (σ : State) (s t c : ℕ) (a : Answer) → takeUp σ .0 ≡ done (s, t, c) → inRangeAndReal a ≡ true → answer (takeUp σ .1) t c a .0 ≡ done tt
 taken-is-answered σ s t c a e real = accepts (takeUp σ .1) s t c a (taken σ s t c e) real
 
 -- every number below MaxSessions has its turn

@@ -1,12 +1,12 @@
 -- What the calls answer at any moment of a history, by the table that agrees with it.
 use Prim.Native.Nat.{ℕ, _+_, _-_, _≤_, _<_}
 use mathlib.Core.Path.{_≡_, refl, _∙_, ap, sym}
-use mathlib.Core.Bool.{true, _&&_}
+use mathlib.Core.Bool.{true, false, _&&_, false≢true}
 use mathlib.Core.Logic.{_⊎_, inl, inr, ⊎-elim}
 use mathlib.Core.List.{List, [], _∷_, _++_}
 use native.Mathlib.Nat.{eq-zero-or-pos}
 use native.Mathlib.Omega.{arith}
-use borrow.Author.Tests.{eq-eqb, ne-eqb, le-leb, eqb-true}
+use borrow.Author.Tests.{eq-eqb, ne-eqb, le-leb, not-true}
 use lib.Dec.{ltb}
 use lib.ListN.{length}
 use Rattle.counts.specs.Limits.{commands, programs, ticketMost}
@@ -33,7 +33,7 @@ pub record Refuses (σ : State) (t : ℕ) : Type 0 where
 module _ (σ : State) (h : List Event) (A : Agrees σ h) where
   -- what the calls that give a ticket give
   record Gives (s u : ℕ) : Type 0 where
-    free : σ .slot s .program ≡ 0
+    free : σ .slot s .taken ≡ false
     next : u ≡ σ .last + 1
 
   place-gives : (p n s u : ℕ) → place σ p n .0 ≡ done (s, u) → Gives s u
@@ -47,7 +47,7 @@ module _ (σ : State) (h : List Event) (A : Agrees σ h) where
           if-cond (λ (z : Result (ℕ × ℕ) × State). z .0 ≡ done (s, u) → Gives s u) (ltb (σ .last) ticketMost)
           (λ q e.
           let k = done-same e in
-          record { free = ap (λ j. σ .slot j .program) (sym (ap (λ r. r .0) k)) ∙ eqb-true _ _ o; next = sym (ap (λ r. r .1) k) })
+          record { free = ap (λ j. σ .slot j .taken) (sym (ap (λ r. r .0) k)) ∙ not-true _ o; next = sym (ap (λ r. r .1) k) })
           (λ q e. absurd (refused≢done e))
 
   take-gives : (s u c : ℕ) → takeUp σ .0 ≡ done (s, u, c) → σ .slot s .ticket ≡ u
@@ -113,7 +113,7 @@ module _ (σ : State) (h : List Event) (A : Agrees σ h) where
   not-again-number t s p n q m u e f g =
       let w = holds t s p n e f in
       let x = is-session σ (A .sound) (λ x. x .ticket) refl s (omega (arith, w .ticket, w .ticket-low)) in
-      omega (arith, x .program-low, place-gives q m s u g .free)
+      false≢true (sym (place-gives q m s u g .free) ∙ x .is-taken)
 
   -- a ticket is new when it is given
   pub given-new : (t : ℕ) → t ≡ σ .last + 1 → New (σ .last) (σ .slot) t (placings t h) (accepted t h) (collections t h)

@@ -13,7 +13,7 @@ use Rattle.counts.specs.Result.{done}
 use Rattle.sessions.specs.History.{Event, placed, answered, collected, gather, placing, placings, accepted, collection, collections}
 use Rattle.sessions.specs.Owed.{ifRoom, owed, Yours}
 use Rattle.sessions.specs.Table.{State, numbered, records, place, collect}
-use Rattle.sessions.specs.Sound.{isReal}
+use Rattle.sessions.specs.Sound.{inRangeAndReal}
 use Rattle.sessions.specs.declared.Answer.{Answer}
 use Rattle.sessions.proofs.Agrees.{Agrees, agrees}
 use Rattle.sessions.proofs.Answers.{Refuses, there, not-again-number, given-new, given-once, collected-gone, closed-or-waits}
@@ -57,7 +57,7 @@ module _ (max : ℕ) (low : 1 ≤ max) (high : max ≤ sessions) (σ : State) (h
 
     -- An answer that was accepted is real, and to a command that there may be.
     pub accepted-in-range : (t c : ℕ) (a : Answer) (r : Unit {0}) → h ≡ later ++ (answered t c a (done r) ∷ earlier)
-        → (1 ≤ c) × (c ≤ commands) × (isReal a ≡ true)
+        → (1 ≤ c) × (c ≤ commands) × (inRangeAndReal a ≡ true)
     accepted-in-range t c a r e =
         let m = moment max run later earlier (answered t c a (done r)) e in
         let w = told (m .now) in

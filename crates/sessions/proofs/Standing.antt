@@ -5,13 +5,13 @@ use mathlib.Core.List.{List, [], _∷_, _++_}
 use native.Mathlib.Nat.{add-comm}
 use native.Mathlib.Omega.{arith}
 use lib.ListN.{length}
-use Rattle.sessions.specs.Find.{put}
+use Rattle.sessions.specs.Find.{replaced}
 use Rattle.sessions.specs.declared.Answer.{Answer}
-use Rattle.sessions.specs.Table.{Slot, openSlot, newSlot, withAnswer, numbered, lowest}
-use Rattle.sessions.proofs.Laws.{put-same, put-other, put-all, numbered-more}
+use Rattle.sessions.specs.Table.{Session, noSession, newSession, withAnswer, numbered, lowest}
+use Rattle.sessions.proofs.Laws.{replaced-same, replaced-other, replaced-all, numbered-more}
 
 -- The placings, acceptances and collections of a ticket t.
-module _ (last : ℕ) (slot : ℕ → Slot) (t : ℕ) (ps : List (ℕ × ℕ × ℕ)) (qs : List (ℕ × Answer)) (rs : List ℕ) where
+module _ (last : ℕ) (slot : ℕ → Session) (t : ℕ) (ps : List (ℕ × ℕ × ℕ)) (qs : List (ℕ × Answer)) (rs : List ℕ) where
   pub record New : Type 0 where
     pub nowhere : 1 ≤ t → (s : ℕ) → slot s .ticket ≡ t → ⊥
     pub no-placing : ps ≡ []
@@ -20,7 +20,7 @@ module _ (last : ℕ) (slot : ℕ → Slot) (t : ℕ) (ps : List (ℕ × ℕ × 
 
   pub record Held : Type 0 where
     pub number : ℕ
-    pub what : Slot
+    pub what : Session
     pub there : slot number ≡ what
     pub ticket-low : 1 ≤ t
     pub its-ticket : what .ticket ≡ t
@@ -30,7 +30,7 @@ module _ (last : ℕ) (slot : ℕ → Slot) (t : ℕ) (ps : List (ℕ × ℕ × 
 
   pub record Gone : Type 0 where
     pub number : ℕ
-    pub what : Slot
+    pub what : Session
     pub given : t ≤ last
     pub ticket-low : 1 ≤ t
     pub nowhere : (s : ℕ) → slot s .ticket ≡ t → ⊥
@@ -45,18 +45,18 @@ module _ (last : ℕ) (slot : ℕ → Slot) (t : ℕ) (ps : List (ℕ × ℕ × 
     gone : Gone → Standing
 
 -- a ticket that stands at s is held there
-pub record At (x : Slot) (s : ℕ) (ps : List (ℕ × ℕ × ℕ)) (qs : List (ℕ × Answer)) (rs : List ℕ) : Type 0 where
+pub record At (x : Session) (s : ℕ) (ps : List (ℕ × ℕ × ℕ)) (qs : List (ℕ × Answer)) (rs : List ℕ) : Type 0 where
   pub one-placing : ps ≡ (s, x .program, x .count) ∷ []
   pub its-answers : qs ≡ numbered 1 (x .answers)
   pub no-reply : rs ≡ []
 
-module _ (last : ℕ) (slot : ℕ → Slot) (t : ℕ) (ps : List (ℕ × ℕ × ℕ)) (qs : List (ℕ × Answer)) (rs : List ℕ) (s : ℕ) where
+module _ (last : ℕ) (slot : ℕ → Session) (t : ℕ) (ps : List (ℕ × ℕ × ℕ)) (qs : List (ℕ × Answer)) (rs : List ℕ) (s : ℕ) where
   -- a change at s that has nothing to do with t
-  pub apart : (last′ : ℕ) (x : Slot) → last ≤ last′ → (1 ≤ t → slot s .ticket ≡ t → ⊥) → (1 ≤ t → x .ticket ≡ t → ⊥)
-      → Standing last slot t ps qs rs → Standing last′ (put slot s x) t ps qs rs
+  pub apart : (last′ : ℕ) (x : Session) → last ≤ last′ → (1 ≤ t → slot s .ticket ≡ t → ⊥) → (1 ≤ t → x .ticket ≡ t → ⊥)
+      → Standing last slot t ps qs rs → Standing last′ (replaced slot s x) t ps qs rs
   apart last′ x l f g (new w) =
       new (record {
-        nowhere = λ k. put-all slot s x (λ i y. y .ticket ≡ t → ⊥) (g k) (λ i n. w .nowhere k i);
+        nowhere = λ k. replaced-all slot s x (λ i y. y .ticket ≡ t → ⊥) (g k) (λ i n. w .nowhere k i);
         no-placing = w .no-placing;
         no-answer = w .no-answer;
         no-reply = w .no-reply;
@@ -65,7 +65,7 @@ module _ (last : ℕ) (slot : ℕ → Slot) (t : ℕ) (ps : List (ℕ × ℕ × 
       held (record {
         number = w .number;
         what = w .what;
-        there = put-other slot s x (λ e. f (w .ticket-low) (ap (λ i. slot i .ticket) (sym e) ∙ ap (λ y. y .ticket) (w .there) ∙ w .its-ticket)) ∙ w .there;
+        there = replaced-other slot s x (λ e. f (w .ticket-low) (ap (λ i. slot i .ticket) (sym e) ∙ ap (λ y. y .ticket) (w .there) ∙ w .its-ticket)) ∙ w .there;
         ticket-low = w .ticket-low;
         its-ticket = w .its-ticket;
         one-placing = w .one-placing;
@@ -78,7 +78,7 @@ module _ (last : ℕ) (slot : ℕ → Slot) (t : ℕ) (ps : List (ℕ × ℕ × 
         what = w .what;
         given = omega (arith, w .given);
         ticket-low = w .ticket-low;
-        nowhere = put-all slot s x (λ i y. y .ticket ≡ t → ⊥) (g (w .ticket-low)) (λ i n. w .nowhere i);
+        nowhere = replaced-all slot s x (λ i y. y .ticket ≡ t → ⊥) (g (w .ticket-low)) (λ i n. w .nowhere i);
         one-placing = w .one-placing;
         its-answers = w .its-answers;
         all-answered = w .all-answered;
@@ -87,14 +87,14 @@ module _ (last : ℕ) (slot : ℕ → Slot) (t : ℕ) (ps : List (ℕ × ℕ × 
 
   -- the ticket that a placing at s gives
   pub its-placing : (p n : ℕ) → last + 1 ≡ t → ((i : ℕ) → slot i .ticket ≤ last) → Standing last slot t ps qs rs
-      → Standing (last + 1) (put slot s (newSlot p n (last + 1))) t ((s, p, n) ∷ ps) qs rs
+      → Standing (last + 1) (replaced slot s (newSession p n (last + 1))) t ((s, p, n) ∷ ps) qs rs
   unfolding numbered
   its-placing p n e b (new w) =
-      let x = newSlot p n (last + 1) in
+      let x = newSession p n (last + 1) in
       held (record {
         number = s;
         what = x;
-        there = put-same slot s x;
+        there = replaced-same slot s x;
         ticket-low = omega arith;
         its-ticket = e;
         one-placing = rw (w .no-placing);
@@ -117,13 +117,13 @@ module _ (last : ℕ) (slot : ℕ → Slot) (t : ℕ) (ps : List (ℕ × ℕ × 
 
     -- an answer to the session at s
     pub its-answer : (a : Answer) → Standing last slot t ps qs rs
-        → Standing last (put slot s (withAnswer (slot s) a)) t ps (qs ++ ((lowest (slot s), a) ∷ [])) rs
+        → Standing last (replaced slot s (withAnswer (slot s) a)) t ps (qs ++ ((lowest (slot s), a) ∷ [])) rs
     its-answer a w =
         let h = held-at w in
         held (record {
           number = s;
           what = withAnswer (slot s) a;
-          there = put-same slot s (withAnswer (slot s) a);
+          there = replaced-same slot s (withAnswer (slot s) a);
           ticket-low = low;
           its-ticket = here;
           one-placing = h .one-placing;
@@ -133,7 +133,7 @@ module _ (last : ℕ) (slot : ℕ → Slot) (t : ℕ) (ps : List (ℕ × ℕ × 
 
     -- its collection
     pub its-collection : length (slot s .answers) ≡ slot s .count → Standing last slot t ps qs rs
-        → Standing last (put slot s openSlot) t ps qs (slot s .program ∷ rs)
+        → Standing last (replaced slot s noSession) t ps qs (slot s .program ∷ rs)
     its-collection all w =
         let h = held-at w in
         gone (record {
@@ -141,7 +141,7 @@ module _ (last : ℕ) (slot : ℕ → Slot) (t : ℕ) (ps : List (ℕ × ℕ × 
           what = slot s;
           given = high;
           ticket-low = low;
-          nowhere = put-all slot s openSlot (λ i y. y .ticket ≡ t → ⊥) (λ e. omega arith) (λ i n e. n (distinct i e));
+          nowhere = replaced-all slot s noSession (λ i y. y .ticket ≡ t → ⊥) (λ e. omega arith) (λ i n e. n (distinct i e));
           one-placing = h .one-placing;
           its-answers = h .its-answers;
           all-answered = all;
