@@ -152,7 +152,7 @@ fn derived(c: &BTreeMap<String, u64>) -> Vec<(&'static str, u64)> {
     let mut all = vec![
         ("RECORD_BYTES", 50 + limit("COMMANDS").to_string().len() as u64 + limit("TEXT_BYTES")),
         ("REPLY_BYTES", reply),
-        ("TABLE_BYTES", 16 * (1 + limit("SESSIONS") * (1 + limit("COMMANDS")))),
+        ("TABLE_BYTES", 16 * (1 + limit("SESSIONS") * (2 + limit("COMMANDS")))),
         ("DONE", 0),
     ];
     all.extend(fields);

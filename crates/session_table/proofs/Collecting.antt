@@ -77,7 +77,8 @@ module _ (b : List ℕ) (p t room : ℕ) where
     pub ready : isReady p t (slotOf b number-ready) ≡ true
     pub room-enough : length (reply (slotOf b number-ready)) ≤ room
 
-  pub collectable-at : soundBytes b ≡ true → within 1 p programs ≡ true → (s : ℕ) → readyFound b p t ≡ at s → length (reply (slotOf b s)) ≤ room → Collectable
+  pub collectable-at : soundBytes b ≡ true → within 1 p programs ≡ true → (s : ℕ) → readyFound b p t ≡ at s → length (reply (slotOf b s)) ≤ room
+      → Collectable
   collectable-at sound range s e fits =
       let f = find-at (λ i. isReady p t (slotOf b i)) (number b maxAt) e in
       record { sound = sound; range = range; number-ready = s; found = e; below = f .0; ready = f .1; room-enough = fits }

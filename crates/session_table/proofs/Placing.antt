@@ -101,14 +101,16 @@ module _ (b : List ℕ) (p n : ℕ) where
     place-leaves = rw (← place-done)
 
   -- what code writes where the number s is open and a ticket is left
-  module _ (sound : soundBytes b ≡ true) (range : ranges ≡ true) (s : ℕ) (found : openIn b ≡ at s) (last : ℕ) (q : last ≡ number b lastAt) (room : last < ticketMost) where
+  module _ (sound : soundBytes b ≡ true) (range : ranges ≡ true) (s : ℕ) (found : openIn b ≡ at s)
+    (last : ℕ) (q : last ≡ number b lastAt) (room : last < ticketMost) where
     its : Placeable
     its = placeable-at sound range s found (omega arith)
 
     pub place-gives : done (s, last + 1) ≡ placing b p n
     place-gives = ap (λ k. done (s, k + 1)) q ∙ place-is sound range s found (omega arith)
 
-    pub place-writes : (h : Head) (d e : List ℕ) → h ≡ newHead p n (record { 0 = last + 1 }) → d ≡ putHead b s h → e ≡ putNumber d lastAt (last + 1) → e ≡ placedBytes b p n
+    pub place-writes : (h : Head) (d e : List ℕ) → h ≡ newHead p n (record { 0 = last + 1 }) → d ≡ putHead b s h → e ≡ putNumber d lastAt (last + 1)
+        → e ≡ placedBytes b p n
     unfolding its
     place-writes h d e r u v =
         v

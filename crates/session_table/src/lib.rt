@@ -37,7 +37,6 @@ use table_sound::is_sound;
 ghost use mathlib.Core.Path.{_≡_};
 ghost use mathlib.Core.Bool.{_&&_, true};
 ghost use Prim.Native.Nat.{_+_, _<_};
-ghost use lib.ListN.{length};
 ghost use Rattle.counts.specs.Limits.{commands, programs};
 ghost use Rattle.counts.specs.Result.{done};
 ghost use Rattle.sessions.specs.Table.{within, isWaiting, givenFrom};
@@ -45,7 +44,7 @@ ghost use Rattle.slot.specs.Fields.{slotOf};
 ghost use Rattle.table_layout.specs.Layout.{number, handAt};
 ghost use Rattle.table_sound.specs.Bytes.{handOf, abs, soundBytes};
 ghost use Rattle.session_table.specs.Paper.{paperMade, paperPlaced, paperTakenUp, paperAnswered};
-ghost use Rattle.session_table.specs.Calls.{namesHand, verdict, only, making, madeBytes, placing, placedBytes, takingUp, takenBytes, answering, answeredBytes, collecting};
+ghost use Rattle.session_table.specs.Calls.{namesHand, verdict, only, making, madeBytes, placing, placedBytes, takingUp, takenBytes, answering, answeredBytes};
 ghost use Rattle.session_table.specs.Collect.{Collects};
 
 pub enum Made {

@@ -20,7 +20,7 @@ use Rattle.sessions.specs.Table.{Session, noSession, within, isOpen, isWaiting}
 use Rattle.slot.proofs.Told.{told-session, told-answers, is-taken, slot-beyond, slot-told}
 use Rattle.slot.specs.Fields.{headOf, entryOf, sessionOf, told, slotOf, Tells}
 use Rattle.slot.specs.declared.Head.{Head}
-use Rattle.table_layout.specs.Layout.{tableBytes, number, tableOf, handAt}
+use Rattle.table_layout.specs.Layout.{tableBytes, tableOf}
 use Rattle.table_layout.specs.declared.Table.{Table}
 use Rattle.table_sound.specs.Bytes.{handOf, abs, soundBytes, Seen}
 
@@ -38,7 +38,8 @@ differs-is : (b : List ℕ) (i t : ℕ) → 1 ≤ t → not (eqb (slotOf b i .ti
 unfolding slotOf told differs isOpen
 differs-is b i t l = go (ltb i sessions) (eqb (headOf b i .taken) 0)
   where
-    go : (k m : Bool) → let x = cond k (cond m noSession (sessionOf (headOf b i) (entryOf b i))) noSession in not (eqb (x .ticket) t) ≡ (not (x .taken) || not (eqb (x .ticket) t))
+    go : (k m : Bool) → let x = cond k (cond m noSession (sessionOf (headOf b i) (entryOf b i))) noSession in
+        not (eqb (x .ticket) t) ≡ (not (x .taken) || not (eqb (x .ticket) t))
     go true true = rw (ne-eqb 0 t (λ e. omega arith))
     go true false = refl
     go false m = rw (ne-eqb 0 t (λ e. omega arith))
@@ -107,7 +108,8 @@ module _ (b seen : List ℕ) where
   pub seen-none : Seen b 0 seen
   seen-none = record { room = omega arith; tickets = λ i l. absurd (omega arith) }
 
-  pub seen-more : (s v : ℕ) (h : Head) → s < length seen → s < sessions → h ≡ headOf b s → Tells h (λ x. x .ticket) v → Seen b s seen → Seen b (s + 1) (set seen s v)
+  pub seen-more : (s v : ℕ) (h : Head) → s < length seen → s < sessions → h ≡ headOf b s → Tells h (λ x. x .ticket) v → Seen b s seen
+      → Seen b (s + 1) (set seen s v)
   seen-more s v h l below q said w =
       let e : v ≡ slotOf b s .ticket = said (entryOf b s) ∙ rw (slot-told b s below, q) in
       record {

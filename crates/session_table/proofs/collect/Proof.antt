@@ -40,7 +40,8 @@ same-length-4 c = search needs
 
 returns-3 : tie.Need-returns-3
 returns-3 c =
-    collect-refuses _ _ _ _ _ (collect-13 _ _ _ _ (sym (c .before .before .is-sound .ensures) ∙ c .before .if1 .left)) _ _ refl (c .plain2 .ensures) (λ z. omega arith)
+    collect-refuses _ _ _ _ _ (collect-13 _ _ _ _ (sym (c .before .before .is-sound .ensures) ∙ c .before .if1 .left)) _ _ refl (c .plain2 .ensures)
+    (λ z. omega arith)
 
 pub collect-spec : {M : Type 1} → statement M
 collect-spec =

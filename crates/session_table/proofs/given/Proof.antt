@@ -13,7 +13,8 @@ lowest-requires c κs = waiting-head _ _ _ (waits _ (c .before .before .before .
 returns : tie.Need-returns
 unfolding paperTakenUp
 returns c =
-    given-is _ _ _ (waits _ (c .before .before .before .before .pre .0) _ (c .before .before .before .before .pre .1)) (c .before .before .get-head .ensures) _ (c .lowest .ensures)
+    given-is _ _ _ (waits _ (c .before .before .before .before .pre .0) _ (c .before .before .before .before .pre .1))
+    (c .before .before .get-head .ensures) _ (c .lowest .ensures)
 
 pub given-spec : {M : Type 1} → statement M
 given-spec = tie.close (tie.spec get-head-requires lowest-requires returns)

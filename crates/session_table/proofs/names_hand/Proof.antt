@@ -19,17 +19,20 @@ sub-t8 c = search needs
 get-head-requires : tie.Need-get-head-requires
 unfolding tableOf
 get-head-requires c κs =
-    (sound-size _ (c .before .before .before .pre), in-hand _ _ (ap (λ x. x .hand) (c .before .get-table .ensures)) (c .before .before .before .pre) (c .if1 .left) .stands-there .below)
+    (sound-size _ (c .before .before .before .pre), in-hand _ _ (ap (λ x. x .hand) (c .before .get-table .ensures)) (c .before .before .before .pre)
+    (c .if1 .left) .stands-there .below)
 
 names-requires : tie.Need-names-requires
 unfolding tableOf
 names-requires c κs =
-    waiting-head _ _ _ (in-hand _ _ (ap (λ x. x .hand) (c .before .before .get-table .ensures)) (c .before .before .before .before .pre) (c .before .if1 .left)) (c .get-head .ensures)
+    waiting-head _ _ _ (in-hand _ _ (ap (λ x. x .hand) (c .before .before .get-table .ensures)) (c .before .before .before .before .pre)
+    (c .before .if1 .left)) (c .get-head .ensures)
 
 returns-2 : tie.Need-returns-2
 unfolding tableOf
 returns-2 c =
-    names-is _ _ (ap (λ x. x .hand) (c .before .before .before .get-table .ensures)) (c .before .before .before .before .before .pre) (c .before .before .if1 .left) _ _ _ (c .before .get-head .ensures) _ (c .names .ensures)
+    names-is _ _ (ap (λ x. x .hand) (c .before .before .before .get-table .ensures)) (c .before .before .before .before .before .pre)
+    (c .before .before .if1 .left) _ _ _ (c .before .get-head .ensures) _ (c .names .ensures)
 
 pub names-hand-spec : {M : Type 1} → statement M
 names-hand-spec =

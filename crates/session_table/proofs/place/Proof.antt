@@ -13,7 +13,8 @@ is-placeable-requires c κs = search needs
 
 place-lowest-requires : tie.Need-place-lowest-requires
 place-lowest-requires c κs =
-    ((sym (c .before .before .before .before .is-sound .ensures) ∙ c .before .before .before .if1 .taken), sym (c .before .before .is-placeable .ensures) ∙ c .before .if2 .taken)
+    ((sym (c .before .before .before .before .is-sound .ensures) ∙ c .before .before .before .if1 .taken), sym (c .before .before .is-placeable .ensures)
+    ∙ c .before .if2 .taken)
 
 same-length : tie.Need-same-length
 same-length c = search needs
@@ -29,7 +30,8 @@ same-length-2 c = search needs
 
 returns-2 : tie.Need-returns-2
 returns-2 c =
-    let no = place-11 _ _ _ (sym (c .before .before .before .before .is-sound .ensures) ∙ c .before .before .before .if1 .taken) (sym (c .before .before .is-placeable .ensures) ∙ c .before .if2 .left) in
+    let no = place-11 _ _ _ (sym (c .before .before .before .before .is-sound .ensures) ∙ c .before .before .before .if1 .taken)
+    (sym (c .before .before .is-placeable .ensures) ∙ c .before .if2 .left) in
     place-refuses _ _ _ _ no _ (c .plain .ensures) (λ z. omega arith)
 
 plain-requires-2 : tie.Need-plain-requires-2

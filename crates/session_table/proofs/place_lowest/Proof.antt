@@ -27,7 +27,8 @@ same-length c = search needs
 returns : tie.Need-returns
 returns c =
     let none-open = found-none _ _ (c .before .before .before .lowest-open .ensures) (c .before .enum-told .given .1) in
-    place-refuses _ _ _ _ (place-9 _ _ _ (c .before .before .before .before .before .before .pre .0) (c .before .before .before .before .before .before .pre .1) none-open) _ (c .plain .ensures) (λ z. omega arith)
+    place-refuses _ _ _ _ (place-9 _ _ _ (c .before .before .before .before .before .before .pre .0)
+    (c .before .before .before .before .before .before .pre .1) none-open) _ (c .plain .ensures) (λ z. omega arith)
 
 get-table-requires : tie.Need-get-table-requires
 get-table-requires c κs = sound-size _ (c .before .before .before .before .before .before .before .pre .0)
@@ -41,8 +42,10 @@ same-length-2 c = search needs
 returns-2 : tie.Need-returns-2
 unfolding tableOf
 returns-2 c =
-    let spent = place-12 _ _ _ (c .before .before .before .before .before .before .before .before .before .before .before .before .pre .0) (c .before .before .before .before .before .before .before .before .before .before .before .before .pre .1) _
-    (found-at _ _ (c .before .before .before .before .before .before .before .before .before .lowest-open .ensures) _ (c .before .before .before .before .before .before .before .s .given .1))
+    let spent = place-12 _ _ _ (c .before .before .before .before .before .before .before .before .before .before .before .before .pre .0)
+    (c .before .before .before .before .before .before .before .before .before .before .before .before .pre .1) _
+    (found-at _ _ (c .before .before .before .before .before .before .before .before .before .lowest-open .ensures) _
+    (c .before .before .before .before .before .before .before .s .given .1))
     (omega (arith, c .before .if1 .taken, ap (λ x. x .last .0) (c .before .before .before .before .get-table .ensures))) in
     place-refuses _ _ _ _ spent _ (c .plain2 .ensures) (λ z. omega arith)
 
@@ -54,11 +57,15 @@ placed-requires c κs = search needs
 
 put-head-requires : tie.Need-put-head-requires
 put-head-requires c κs =
-    (sound-size _ (c .before .before .before .before .before .before .before .before .before .before .before .before .before .before .pre .0), place-below _ (c .before .before .before .before .before .before .before .before .before .before .before .before .before .before .pre .0) _ (found-at _ _ (c .before .before .before .before .before .before .before .before .before .before .before .lowest-open .ensures) _ (c .before .before .before .before .before .before .before .before .before .s .given .1)))
+    (sound-size _ (c .before .before .before .before .before .before .before .before .before .before .before .before .before .before .pre .0), place-below _
+    (c .before .before .before .before .before .before .before .before .before .before .before .before .before .before .pre .0) _
+    (found-at _ _ (c .before .before .before .before .before .before .before .before .before .before .before .lowest-open .ensures) _
+    (c .before .before .before .before .before .before .before .before .before .s .given .1)))
 
 put-last-requires : tie.Need-put-last-requires
 put-last-requires c κs =
-    let z = sound-size _ (c .before .before .before .before .before .before .before .before .before .before .before .before .before .before .before .before .before .before .pre .0) in search needs
+    let z = sound-size _
+    (c .before .before .before .before .before .before .before .before .before .before .before .before .before .before .before .before .before .before .pre .0) in search needs
 
 same-length-3 : tie.Need-same-length-3
 same-length-3 c = search needs
@@ -66,11 +73,18 @@ same-length-3 c = search needs
 returns-3 : tie.Need-returns-3
 unfolding paperPlaced tableOf
 returns-3 c =
-    let found = found-at _ _ (c .before .before .before .before .before .before .before .before .before .before .before .before .before .before .before .before .before .before .lowest-open .ensures) _ (c .before .before .before .before .before .before .before .before .before .before .before .before .before .before .before .before .s .given .1) in
-    let last = ap (λ x. x .last .0) (c .before .before .before .before .before .before .before .before .before .before .before .before .before .get-table .ensures) in
-    (place-gives _ _ _ (c .before .before .before .before .before .before .before .before .before .before .before .before .before .before .before .before .before .before .before .before .before .pre .0) (c .before .before .before .before .before .before .before .before .before .before .before .before .before .before .before .before .before .before .before .before .before .pre .1) _ found _ last (c .before .before .before .before .before .before .before .before .before .before .if1 .left),
-    place-writes _ _ _ (c .before .before .before .before .before .before .before .before .before .before .before .before .before .before .before .before .before .before .before .before .before .pre .0) (c .before .before .before .before .before .before .before .before .before .before .before .before .before .before .before .before .before .before .before .before .before .pre .1) _ found _ last (c .before .before .before .before .before .before .before .before .before .before .if1 .left)
-    _ _ _ (c .before .before .before .before .before .before .before .placed .ensures) (c .before .before .before .before .before .before .put-head .ensures) (c .before .before .put-last .ensures))
+    let pre = c .before .before .before .before .before .before .before .before .before .before .before .before .before .before .before .before .before .before .before .before .before .pre in
+    let found =
+    found-at _ _
+    (c .before .before .before .before .before .before .before .before .before .before .before .before .before .before .before .before .before .before .lowest-open .ensures) _
+    (c .before .before .before .before .before .before .before .before .before .before .before .before .before .before .before .before .s .given .1) in
+    let last = ap (λ x. x .last .0)
+    (c .before .before .before .before .before .before .before .before .before .before .before .before .before .get-table .ensures) in
+    let room = c .before .before .before .before .before .before .before .before .before .before .if1 .left in
+    (place-gives _ _ _ (pre .0) (pre .1) _ found _ last room,
+    place-writes _ _ _ (pre .0) (pre .1) _ found _ last room _ _ _
+    (c .before .before .before .before .before .before .before .placed .ensures) (c .before .before .before .before .before .before .put-head .ensures)
+    (c .before .before .put-last .ensures))
 
 pub place-lowest-spec : {M : Type 1} → statement M
 place-lowest-spec =

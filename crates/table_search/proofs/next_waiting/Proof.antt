@@ -44,7 +44,9 @@ returns c =
     turned-at _ _ (c .before .before .before .before .before .loop .inv .1) _ _ (c .before .before .before .in-turn .ensures .0)
     (find-hit _ _ (c .before .before .before .before .before .loop .inv .3)
     (waiting-in-turn _ _ (c .before .before .before .before .before .loop .inv .1) _ _ (c .before .before .before .in-turn .ensures .0)
-    (asked _ _ _ (c .before .before .get-head .ensures) (omega (arith, c .before .before .before .in-turn .ensures .1, c .before .before .before .before .before .before .before .before .pre .limit)) isWaiting (c .before .is-waiting .ensures) (c .if1 .taken)))
+    (asked _ _ _ (c .before .before .get-head .ensures) (omega
+    (arith, c .before .before .before .in-turn .ensures .1, c .before .before .before .before .before .before .before .before .pre .limit)) isWaiting
+    (c .before .is-waiting .ensures) (c .if1 .taken)))
     (omega arith))
 
 add-i : tie.Need-add-i Inv-loop μ-loop
@@ -55,9 +57,12 @@ loop-less c = omega arith
 
 loop-again : tie.Need-loop-again Inv-loop μ-loop
 loop-again c =
-    (omega arith, c .before .before .before .before .before .loop .inv .1, c .before .before .before .before .before .loop .inv .2, find-more _ (c .before .before .before .before .before .loop .inv .3)
+    (omega arith, c .before .before .before .before .before .loop .inv .1, c .before .before .before .before .before .loop .inv .2, find-more _
+    (c .before .before .before .before .before .loop .inv .3)
     (waiting-in-turn _ _ (c .before .before .before .before .before .loop .inv .1) _ _ (c .before .before .before .in-turn .ensures .0)
-    (asked _ _ _ (c .before .before .get-head .ensures) (omega (arith, c .before .before .before .in-turn .ensures .1, c .before .before .before .before .before .before .before .before .pre .limit)) isWaiting (c .before .is-waiting .ensures) (c .if1 .left))))
+    (asked _ _ _ (c .before .before .get-head .ensures) (omega
+    (arith, c .before .before .before .in-turn .ensures .1, c .before .before .before .before .before .before .before .before .pre .limit)) isWaiting
+    (c .before .is-waiting .ensures) (c .if1 .left))))
 
 returns-2 : tie.Need-returns-2 Inv-loop μ-loop
 returns-2 c = sym (ap (turned (abs _)) (find-end _ (c .before .loop .inv .3) (omega arith)))

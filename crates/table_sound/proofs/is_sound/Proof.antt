@@ -20,10 +20,15 @@ hand-is-sound-requires : tie.Need-hand-is-sound-requires
 hand-is-sound-requires c κs = search needs
 
 returns-2 : tie.Need-returns-2
-returns-2 c = c .hand-is-sound .ensures ∙ sound-hand _ (search needs) _ (c .before .before .before .before .before .get-table .ensures) _ (c .before .before .before .before .limits-are-sound .ensures) _ (c .before .before .slots-are-sound .ensures) (c .before .before .before .if2 .taken) (c .before .if3 .taken)
+returns-2 c =
+    c .hand-is-sound .ensures ∙ sound-hand _ (search needs) _ (c .before .before .before .before .before .get-table .ensures) _
+    (c .before .before .before .before .limits-are-sound .ensures) _ (c .before .before .slots-are-sound .ensures) (c .before .before .before .if2 .taken)
+    (c .before .if3 .taken)
 
 returns-3 : tie.Need-returns-3
-returns-3 c = sound-no-slots _ (search needs) _ (c .before .before .before .before .get-table .ensures) _ (c .before .before .before .limits-are-sound .ensures) _ (c .before .slots-are-sound .ensures) (c .if3 .left)
+returns-3 c =
+    sound-no-slots _ (search needs) _ (c .before .before .before .before .get-table .ensures) _ (c .before .before .before .limits-are-sound .ensures) _
+    (c .before .slots-are-sound .ensures) (c .if3 .left)
 
 returns-4 : tie.Need-returns-4
 returns-4 c = sound-no-limits _ (search needs) _ (c .before .before .get-table .ensures) _ (c .before .limits-are-sound .ensures) (c .if2 .left)
