@@ -37,7 +37,7 @@ static size_t file_bytes;
 static uint8_t text[255];
 static size_t text_bytes;
 static uint32_t outcome;
-static uint8_t table[RB_TABLE_BYTES], saved[32];
+static uint8_t table[RB_TABLE_BYTES], saved[48];
 static size_t held; /* the row of the session that a call changes */
 static uint32_t program;
 static rb_ticket ticket;
@@ -121,22 +121,23 @@ static void put(size_t row, uint32_t a, uint32_t b, uint32_t c, uint32_t d) {
     memcpy(table + 16 * row, v, 16);
 }
 
-static size_t row_of(uint32_t s, uint32_t c) { return 1 + 65 * (size_t)s + c; }
+static size_t row_of(uint32_t s, uint32_t c) { return 1 + 66 * (size_t)s + (c ? 1 + c : 0); }
 
 static void session(uint32_t s, uint32_t p, uint32_t count, uint32_t answered) {
-    put(row_of(s, 0), p, count, answered, s + 1);
+    put(row_of(s, 0), 1, p, count, answered);
+    put(row_of(s, 0) + 1, s + 1, 0, 0, 0);
     for (uint32_t c = 1; c <= answered; c++) put(row_of(s, c), c % 4 ? 0 : 7, c % 4 ? 0 : 120045, 20240401 + c % 30, 60000 + c % 60);
 }
 
 static void keep(uint32_t s) {
     held = row_of(s, 0);
     memcpy(saved, table, 16);
-    memcpy(saved + 16, table + 16 * held, 16);
+    memcpy(saved + 16, table + 16 * held, 32);
 }
 
 static void restore(void) {
     memcpy(table, saved, 16);
-    memcpy(table + 16 * held, saved + 16, 16);
+    memcpy(table + 16 * held, saved + 16, 32);
 }
 
 /* A table of that many sessions, of which the last one is open, half answered, or closed, with that many commands. */

@@ -51,7 +51,7 @@ struct entry {
 };
 
 struct session {
-    uint32_t program, count, answered, ticket;
+    uint32_t taken, program, count, answered, ticket, spare[3];
     struct entry entries[64];
 };
 
@@ -66,10 +66,10 @@ static bool is_entry(const struct entry *e) {
 
 static bool is_session(const struct table *t, uint32_t s) {
     const struct session *x = &t->sessions[s];
-    if (s >= t->max || x->program > 8 || x->count < 1 || x->count > 64 || x->answered > x->count || x->ticket < 1 || x->ticket > t->last)
+    if (s >= t->max || x->program < 1 || x->program > 8 || x->count < 1 || x->count > 64 || x->answered > x->count || x->ticket < 1 || x->ticket > t->last)
         return false;
     for (uint32_t i = 0; i < s; i++)
-        if (t->sessions[i].program && t->sessions[i].ticket == x->ticket) return false;
+        if (t->sessions[i].taken && t->sessions[i].ticket == x->ticket) return false;
     for (uint32_t c = 0; c < x->answered; c++)
         if (!is_entry(&x->entries[c])) return false;
     return true;
@@ -78,9 +78,9 @@ static bool is_session(const struct table *t, uint32_t s) {
 static bool is_sound(const struct table *t, size_t n) {
     if (n != sizeof *t || t->max < 1 || t->max > 32 || t->mark >= t->max || t->hand > t->max) return false;
     for (uint32_t s = 0; s < 32; s++)
-        if (t->sessions[s].program && !is_session(t, s)) return false;
+        if (t->sessions[s].taken && !is_session(t, s)) return false;
     const struct session *held = t->hand ? &t->sessions[t->hand - 1] : 0;
-    return !held || (held->program && held->answered < held->count);
+    return !held || (held->taken && held->answered < held->count);
 }
 
 uint32_t plain_make(uint8_t *table, size_t n, uint32_t max) {
@@ -98,10 +98,11 @@ uint32_t plain_place(uint8_t *table, size_t n, uint32_t program, uint32_t count,
     if (!is_sound(t, n)) return 13;
     if (program < 1 || program > 8 || count < 1 || count > 64) return 11;
     uint32_t s = 0;
-    while (s < t->max && t->sessions[s].program) s++;
+    while (s < t->max && t->sessions[s].taken) s++;
     if (s == t->max) return 9;
     if (t->last == UINT32_MAX) return 12;
     struct session *x = &t->sessions[s];
+    x->taken = 1;
     x->program = program;
     x->count = count;
     x->answered = 0;
@@ -116,7 +117,7 @@ uint32_t plain_take_up(uint8_t *table, size_t n, uint32_t *number, uint32_t *tic
     if (!is_sound(t, n)) return 13;
     for (uint32_t i = 0; i < t->max && !t->hand; i++) {
         uint32_t s = (t->mark + 1 + i) % t->max;
-        if (t->sessions[s].program && t->sessions[s].answered < t->sessions[s].count) {
+        if (t->sessions[s].taken && t->sessions[s].answered < t->sessions[s].count) {
             t->mark = s;
             t->hand = s + 1;
         }
@@ -148,7 +149,7 @@ uint32_t plain_collect(uint8_t *table, size_t n, uint32_t program, uint32_t tick
     if (!is_sound(t, n)) return 13;
     if (program < 1 || program > 8) return 11;
     uint32_t s = 0;
-    while (s < t->max && !(t->sessions[s].program == program && t->sessions[s].ticket == ticket)) s++;
+    while (s < t->max && !(t->sessions[s].taken && t->sessions[s].program == program && t->sessions[s].ticket == ticket)) s++;
     if (s == t->max || t->sessions[s].answered < t->sessions[s].count) return 10;
     struct session *x = &t->sessions[s];
     for (uint32_t c = 0; c < x->count; c++) {
@@ -158,6 +159,6 @@ uint32_t plain_collect(uint8_t *table, size_t n, uint32_t program, uint32_t tick
     if (at > room) return 8;
     memcpy(out, reply, at);
     *written = at;
-    x->program = 0;
+    x->taken = 0;
     return 0;
 }

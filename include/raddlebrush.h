@@ -93,7 +93,7 @@ static inline const char *rb_refusal_text(uint32_t number) {
 #define RB_MAX_RECORD_BYTES 307u  /* ERROR, a number of two digits, a text of 255 bytes */
 #define RB_MAX_REPLY_BYTES 3319u  /* 64 ERROR records without text */
 #define RB_FILE_NAME_BYTES 12u    /* a session file's name */
-#define RB_TABLE_BYTES 33296u     /* a session table, for every MaxSessions */
+#define RB_TABLE_BYTES 33808u     /* a session table, for every MaxSessions */
 
 /* ---- three counts kept apart: each is a structure of one number, so that a compiler refuses one where another is due. It is passed as
  * the number is, and where it lies the number lies. */
@@ -298,8 +298,9 @@ bool rb_is_sound(const uint8_t *table, size_t table_bytes);
  * Rows of four numbers, each of four bytes, low byte first.
  * Row 0: MaxSessions, the last ticket, the number last taken up, and what is in hand (0, or one more than the session's number).
  * In a fresh table, where none was taken up yet, MaxSessions - 1 stands for the number last taken up, so that 0 comes first.
- * Then for each session 65 rows: its head, and a row for each command.
- * The head: program (0 where the number is open), command count, answers so far, ticket.
+ * Then for each session 66 rows: two for its head, and a row for each command.
+ * The head: whether the number is taken (0 where it is open; any other number where it is taken, and 1 is what is written), program,
+ * command count, answers so far; then the ticket, and three numbers that are spare and say nothing.
  * The row of an answered command: 0 for PROCESSED or one more than the class, the code, date, time.
  * The code of a PROCESSED says nothing, whatever number stands there; rb_table_answer puts 0 there.
  * The rest of a slot whose number is open says nothing, and neither does the row of a command that is not answered. */

@@ -386,8 +386,9 @@ fn near(r: &mut Random, row: usize, command: usize, column: usize) -> u32 {
         (0, _, 0) => r.pick(&[0, 1, 31, 32, 33]),
         (0, _, 1) => r.pick(&[0, 1, 2, 5, u32::MAX]),
         (0, _, _) => r.from(0, 34) as u32,
-        (_, 0, 0) => r.pick(&[0, 1, 7, 8, 9]),
-        (_, 0, 1) | (_, 0, 2) => r.pick(&[0, 1, 2, 3, 63, 64, 65]),
+        (_, 0, table::TAKEN) => r.pick(&[0, 1, 2, u32::MAX]),
+        (_, 0, table::PROGRAM) => r.pick(&[0, 1, 7, 8, 9]),
+        (_, 0, table::COUNT) | (_, 0, table::ANSWERED) => r.pick(&[0, 1, 2, 3, 63, 64, 65]),
         (_, 0, _) => r.pick(&[0, 1, 2, 3, u32::MAX]),
         (_, _, 0) => r.pick(&[0, 1, 99, 100, 101, u32::MAX]),
         (_, _, 1) => r.pick(&[0, 99_999_999, 100_000_000, u32::MAX]),
@@ -398,16 +399,16 @@ fn near(r: &mut Random, row: usize, command: usize, column: usize) -> u32 {
 
 /// Changes one number of the table to what may stand there or may not: mostly one that counts.
 pub fn damage_table(r: &mut Random, bytes: &mut [u8]) {
-    let standing: Vec<usize> = (0..table::SESSIONS).filter(|s| table::number(bytes, table::row_of(*s, 0), 0) != 0).collect();
+    let standing: Vec<usize> = (0..table::SESSIONS).filter(|s| table::number(bytes, table::row_of(*s, 0), table::TAKEN) != 0).collect();
     let session = if standing.is_empty() || r.once_in(6) { r.below(table::SESSIONS) } else { r.pick(&standing) };
-    let answered = table::number(bytes, table::row_of(session, 0), 2) as usize;
+    let answered = table::number(bytes, table::row_of(session, 0), table::ANSWERED) as usize;
     let command = match r.below(3) {
         0 => 0,
         1 if (1..=table::COMMANDS).contains(&answered) => r.from(1, answered),
         _ => r.below(table::COMMANDS + 1),
     };
     let row = if r.once_in(4) { 0 } else { table::row_of(session, command) };
-    let column = r.below(4);
+    let column = r.below(if row != 0 && command == 0 { 5 } else { 4 });
     let old = table::number(bytes, row, column);
     let value = match r.below(6) {
         0 => old.wrapping_add(1),
@@ -415,7 +416,7 @@ pub fn damage_table(r: &mut Random, bytes: &mut [u8]) {
         2 => old ^ (1 << r.below(32)),
         3 if !standing.is_empty() => {
             let other = r.pick(&standing);
-            table::number(bytes, table::row_of(other, 0), 3)
+            table::number(bytes, table::row_of(other, 0), table::TICKET)
         }
         _ => near(r, row, command, column),
     };

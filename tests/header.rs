@@ -212,7 +212,7 @@ fn derived(c: &BTreeMap<String, u64>) -> Vec<(&'static str, u64)> {
     vec![
         ("MAX_RECORD_BYTES", 50 + limit("COMMANDS").to_string().len() as u64 + limit("TEXT_BYTES")),
         ("MAX_REPLY_BYTES", reply),
-        ("TABLE_BYTES", 16 * (1 + limit("SESSIONS") * (1 + limit("COMMANDS")))),
+        ("TABLE_BYTES", 16 * (1 + limit("SESSIONS") * (2 + limit("COMMANDS")))),
         ("DONE", 0),
     ]
 }

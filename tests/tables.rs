@@ -159,7 +159,8 @@ fn full_table(r: &mut Random, max: usize) -> Vec<u8> {
         let count = r.pick(&[1, 2, 64, any]);
         let some = r.below(count + 1);
         let answered = r.pick(&[0, count, count, some]);
-        let head = [if stands { r.from(1, 8) as u32 } else { 0 }, count as u32, answered as u32, first + ((s * 7) % 32) as u32];
+        let taken = if stands { r.pick(&[1, 1, 2, u32::MAX]) } else { 0 };
+        let head = [taken, r.from(1, 8) as u32, count as u32, answered as u32, first + ((s * 7) % 32) as u32];
         for (column, value) in head.into_iter().enumerate() {
             table::put_number(&mut bytes, table::row_of(s, 0), column, value);
         }

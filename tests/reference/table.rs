@@ -7,7 +7,7 @@ use super::{plain, Refusal};
 
 pub const SESSIONS: usize = 32;
 pub const COMMANDS: usize = 64;
-pub const TABLE_BYTES: usize = 16 * (1 + SESSIONS * (1 + COMMANDS));
+pub const TABLE_BYTES: usize = 16 * (1 + SESSIONS * (2 + COMMANDS));
 
 #[derive(Clone, Copy, Debug, PartialEq, Eq)]
 pub struct Answer {
@@ -47,10 +47,18 @@ fn is_answer(a: &Answer) -> bool {
 
 // ---- the bytes
 
-/// Row 0 is the table's own; then each session has a row for its head and one for the answer to each command.
+/// Row 0 is the table's own; then each session has two rows for its head and one for the answer to each command. The first row of the head,
+/// or the row of an answer.
 pub fn row_of(session: usize, command: usize) -> usize {
-    1 + session * (1 + COMMANDS) + command
+    1 + session * (2 + COMMANDS) + if command == 0 { 0 } else { 1 + command }
 }
+
+/// The columns of a head; the ticket begins its second row.
+pub const TAKEN: usize = 0;
+pub const PROGRAM: usize = 1;
+pub const COUNT: usize = 2;
+pub const ANSWERED: usize = 3;
+pub const TICKET: usize = 4;
 
 pub fn number(bytes: &[u8], row: usize, column: usize) -> u32 {
     let at = 16 * row + 4 * column;
@@ -79,11 +87,11 @@ fn answer_of(bytes: &[u8], row: usize) -> Answer {
 /// None where the slot is open; an error where a session stands there that no sound table has.
 fn session_of(bytes: &[u8], s: usize) -> Result<Option<Session>, ()> {
     let head = row_of(s, 0);
-    let [program, count, answered, ticket] = [0, 1, 2, 3].map(|column| number(bytes, head, column));
-    if program == 0 {
+    let [taken, program, count, answered, ticket] = [TAKEN, PROGRAM, COUNT, ANSWERED, TICKET].map(|column| number(bytes, head, column));
+    if taken == 0 {
         return Ok(None);
     }
-    if program > 8 || !(1..=64).contains(&count) || ticket == 0 || answered > count {
+    if !(1..=8).contains(&program) || !(1..=64).contains(&count) || ticket == 0 || answered > count {
         return Err(());
     }
     let answers: Vec<Answer> = (1..=answered as usize).map(|c| answer_of(bytes, row_of(s, c))).collect();
@@ -153,7 +161,8 @@ pub fn place(bytes: &mut [u8], program: u32, count: u32) -> Result<(u32, u32), R
     }
     let Some(s) = (0..table.max).find(|s| table.sessions[*s].is_none()) else { return plain(9) };
     let Some(ticket) = table.last.checked_add(1) else { return plain(12) };
-    put_row(bytes, row_of(s, 0), [program, count, 0, ticket]);
+    put_row(bytes, row_of(s, 0), [1, program, count, 0]);
+    put_number(bytes, row_of(s, 0), TICKET, ticket);
     put_number(bytes, 0, 1, ticket);
     Ok((s as u32, ticket))
 }
@@ -187,7 +196,7 @@ pub fn answer(bytes: &mut [u8], ticket: u32, command: u32, a: Answer) -> Result<
         Outcome::Error { class, code } => (class + 1, code),
     };
     put_row(bytes, row_of(s, command as usize), [kind, code, a.date, a.time]);
-    put_number(bytes, row_of(s, 0), 2, command);
+    put_number(bytes, row_of(s, 0), ANSWERED, command);
     put_number(bytes, 0, 3, 0);
     Ok(())
 }
@@ -208,6 +217,6 @@ pub fn collect(bytes: &mut [u8], program: u32, ticket: u32, room: usize) -> Resu
     if reply.len() > room {
         return plain(8);
     }
-    put_number(bytes, row_of(s, 0), 0, 0);
+    put_number(bytes, row_of(s, 0), TAKEN, 0);
     Ok(reply)
 }

@@ -26,7 +26,7 @@ use Rattle.sessions.specs.History.{itself, Call, toMake, toPlace, toTakeUp, toA
 use Rattle.sessions.specs.Owed.{ifRoom}
 use Rattle.sessions.specs.Records.{isDated, recordOf}
 use Rattle.sessions.specs.Runs.{reached, historyOf, makesAnew, neverAnew, wasMade, refusedWith}
-use Rattle.sessions.specs.Sound.{isReal}
+use Rattle.sessions.specs.Sound.{inRangeAndReal}
 use Rattle.sessions.specs.Table.{State, fresh, records}
 use Rattle.sessions.specs.declared.Answer.{Answer}
 use Rattle.session_table.specs.Calls.{making, freshBytes, madeBytes}
@@ -46,8 +46,8 @@ unfolding stepBytes madeBytes making
 refused-making-changes-nothing b max q = rw q
 
 -- an answer that may be accepted is read from its record
-says : (c : ℕ) (a : Answer) → 1 ≤ c → c ≤ commands → isReal a ≡ true → Says (recordOf c a) c a
-unfolding isReal permitted inRange isText runEnd run
+says : (c : ℕ) (a : Answer) → 1 ≤ c → c ≤ commands → inRangeAndReal a ≡ true → Says (recordOf c a) c a
+unfolding inRangeAndReal permitted inRange isText runEnd run
 says c a low high real =
     let k = halves (isDated a) (isOutcome (a .outcome)) real in
     read-exactly commands (omega arith) (recordOf c a) (content c (a .outcome) [] (a .date) (a .time)) .1

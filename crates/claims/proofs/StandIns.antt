@@ -19,10 +19,10 @@ use Rattle.sessions.proofs.Did.{stepTable}
 use Rattle.sessions.proofs.Laws.{head-same}
 use Rattle.sessions.proofs.Past.{gather-append}
 use Rattle.sessions.proofs.Runs.{SameRun}
-use Rattle.sessions.specs.Find.{find, put}
+use Rattle.sessions.specs.Find.{find, replaced}
 use Rattle.sessions.specs.History.{Call, toPlace, toTakeUp, toAnswer, toCollect, Event, placed, tookUp, collected, written, gather, placing, placings}
 use Rattle.sessions.specs.Runs.{reached, historyOf, neverAnew}
-use Rattle.sessions.specs.Table.{State, fresh as freshState, isOpen, isWaiting, isReady, names, numbered, records, placeIn, place, takeNext, takeHand, takeUp, answerHand, answer, collectFrom, collect}
+use Rattle.sessions.specs.Table.{State, fresh as freshState, isOpen, isWaiting, isClosed, isReady, names, numbered, records, placeIn, place, takeNext, takeHand, takeUp, answerHand, answer, collectFrom, collect}
 use Rattle.sessions.specs.declared.Answer.{Answer}
 use Rattle.session_table.specs.Calls.{freshBytes}
 use Rattle.session_table.specs.Calls as calls
@@ -71,15 +71,15 @@ took-so : {r v : Result (ℕ × ℕ × ℕ)} → tookUp r ≡ tookUp v → r ≡
 took-so e = cc
 
 places-first : calls.placing (freshBytes 2) 1 1 ≡ done (0, 1)
-unfolding stepBytes stepTable reached freshState isOpen find put placeIn place
+unfolding stepBytes stepTable reached freshState isOpen find replaced placeIn place
 places-first = placed-so (gives [] (toPlace 1 1))
 
 gives-first : calls.takingUp (of-two placing-one) ≡ done (0, 1, 1)
-unfolding stepBytes stepTable reached freshState isOpen isWaiting find put placeIn place takeNext takeHand takeUp
+unfolding stepBytes stepTable reached freshState isOpen isWaiting find replaced placeIn place takeNext takeHand takeUp
 gives-first = took-so (gives placing-one toTakeUp)
 
 pub hands-over-first : calls.collecting (of-two answering-one) 1 1 (length output) ≡ done (records (numbered 1 (processed ∷ [])))
-unfolding stepTable reached freshState isOpen isWaiting isReady find put names placeIn place takeNext takeHand takeUp answerHand answer collectFrom collect numbered records realMoment februaryLength monthLength realDate realTime digits widthFrom plainWidth plain momentBytes recordBytes
+unfolding stepTable reached freshState isOpen isWaiting isClosed isReady find replaced names placeIn place takeNext takeHand takeUp answerHand answer collectFrom collect numbered records realMoment februaryLength monthLength realDate realTime digits widthFrom plainWidth plain momentBytes recordBytes
 hands-over-first =
     let w = same answering-one .stands in
     collecting-is (of-two answering-one) (w .sound) 1 1 output ∙ ap (λ (σ : State). collect σ 1 1 (length output) .0) (w .table)

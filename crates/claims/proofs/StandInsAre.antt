@@ -15,7 +15,7 @@ use Rattle.statement.specs.declared.Statement.the-variants.{GetInfo}
 use Rattle.moment.specs.Moment.{realMoment, momentBytes}
 use Rattle.record.specs.Record.{recordBytes}
 use Rattle.sessions.proofs.Did.{stepTable}
-use Rattle.sessions.specs.Find.{find, put}
+use Rattle.sessions.specs.Find.{find, replaced}
 use Rattle.sessions.specs.History.{Call, toMake, toPlace, toTakeUp, toAnswer, toCollect, Event, made, placed, tookUp, answered, collected, written, gather, collection, accepted}
 use Rattle.sessions.specs.Runs.{reached, historyOf, neverAnew}
 use Rattle.sessions.specs.Table.{fresh as freshState, isOpen, isWaiting, names, numbered, records, placeIn, place, takeNext, takeHand, takeUp, answerHand, answer}
@@ -55,7 +55,7 @@ second-events a = answered 2 1 a (done tt) ∷ tookUp (done (1, 2, 1)) ∷ place
 
 serves : (historyOf (freshBytes 2) stepBytes (second processed) ≡ second-events processed)
     × (historyOf (freshBytes 2) stepBytes (second failed) ≡ second-events failed)
-unfolding first-events second-events second historyOf reached stepTable freshState isOpen isWaiting find put names placeIn place takeNext takeHand takeUp answerHand answer realMoment februaryLength monthLength realDate realTime
+unfolding first-events second-events second historyOf reached stepTable freshState isOpen isWaiting find replaced names placeIn place takeNext takeHand takeUp answerHand answer realMoment februaryLength monthLength realDate realTime
 serves = (same (second processed) .history, same (second failed) .history)
 
 serves-first : historyOf (freshBytes 2) stepBytes answering-one ≡ first-events

@@ -42,11 +42,12 @@ use Rattle.job_claims.specs.Rows.{One}
 use Rattle.sessions.specs.History.{Call, toPlace, toTakeUp, toAnswer, toCollect, Event, placed, tookUp, answered, collected, collectedAs, placings, accepted, collections}
 use Rattle.sessions.specs.Runs.{historyOf, makesAnew, neverAnew, refusedWith, Refuses}
 use Rattle.sessions.specs.Records.{recordOf}
-use Rattle.sessions.specs.Sound.{isReal}
+use Rattle.sessions.specs.Sound.{inRangeAndReal}
 use Rattle.sessions.specs.Owed.{ifRoom, owed, Yours}
 use Rattle.sessions.specs.Table.{fresh, place, takeUp, answer, collect, numbered, records}
 use Rattle.sessions.specs.declared.Answer.{Answer}
-use Rattle.table_layout.specs.Layout.{tableBytes, entryAt, answeredAt, handAt, number}
+use Rattle.slot.specs.Fields.{entryAt, answeredAt}
+use Rattle.table_layout.specs.Layout.{tableBytes, handAt, number}
 use Rattle.table_sound.specs.Bytes.{abs, soundBytes}
 use Rattle.session_table.specs.Calls.{Beyond, making, madeBytes, placing, placedBytes, takingUp, takenBytes, answering, answeredBytes, inHand, collecting, collectedBytes, collectedOut}
 use Rattle.session_table.specs.Collect.{Collects}
@@ -244,7 +245,7 @@ pub record Serves (step : Step) (b : List ℕ) (h : List Event) : Type 0 where
       → (newer older : List Event) → later ≡ newer ++ older → length (accepted t older) ≡ n → accepted t later ≡ accepted t older
   -- "A table that does nothing never closes a session": while a command is unanswered one is given, and its answer is accepted
   pub is-given : (t s p n : ℕ) → placings t h ≡ (s, p, n) ∷ [] → length (accepted t h) < n → (x : ℕ × ℕ × ℕ) × (step b toTakeUp .0 ≡ tookUp (done x))
-  pub is-accepted : (s t c : ℕ) (a : Answer) → step b toTakeUp .0 ≡ tookUp (done (s, t, c)) → isReal a ≡ true
+  pub is-accepted : (s t c : ℕ) (a : Answer) → step b toTakeUp .0 ≡ tookUp (done (s, t, c)) → inRangeAndReal a ≡ true
       → step (step b toTakeUp .1) (toAnswer t c a) .0 ≡ answered t c a (done tt)
   -- "a collected ticket is never honoured again"
   pub never-again : (p t n : ℕ) (out exit : List ℕ) (later earlier : List Event) → Happened h (collected p t out (done n) exit) later earlier

@@ -26,15 +26,16 @@ use Rattle.sessions.specs.Table.{State, fresh, within, place, placeIn, turn, ta
 use Rattle.sessions.specs.declared.Answer.{Answer}
 use Rattle.session_table.proofs.Answering.{Answerable, answerable, answer-hand, answer-leaves as answering-leaves}
 use Rattle.session_table.proofs.Collecting.{Collectable, collectable, collect-done, collect-leaves as collecting-leaves}
-use Rattle.session_table.proofs.Hands.{hand-empty, hand-full}
 use Rattle.session_table.proofs.Placing.{openIn, Placeable, placeable, place-leaves as placing-leaves}
 use Rattle.session_table.proofs.Turns.{nextIn, next-found, next-waits, next-leaves, again-leaves}
 use Rattle.session_table.specs.Calls.{only, after, making, freshBytes, madeBytes, placing, placedAt, placedBytes, takingUp, takenAt, takenBytes, answering, answeredAs, answeredBytes, collecting, collectedAt, collectedBytes, collectedOut, readyIn, inHand}
-use Rattle.table_layout.proofs.Numbers.{length-putNumber}
-use Rattle.table_layout.specs.Layout.{tableBytes, maxAt, lastAt, handAt, number, putHead, putEntry}
+use Rattle.slot.specs.Fields.{slotOf}
+use Rattle.slot.specs.Stored.{putHead, putEntry, putSlot}
+use Rattle.table_layout.proofs.Numbers.{length-putNumber, length-putRow}
+use Rattle.table_layout.specs.Layout.{tableBytes, maxAt, lastAt, handAt, number}
 use Rattle.table_search.proofs.Sounds.{sound-size, sound-table, waits, hand-waits}
-use Rattle.table_slot.specs.Slots.{putSlot}
-use Rattle.table_sound.specs.Bytes.{slotOf, abs, soundBytes}
+use Rattle.table_sound.proofs.Slots.{hand-empty, hand-full}
+use Rattle.table_sound.specs.Bytes.{abs, soundBytes}
 use Rattle.session_histories.proofs.Fresh.{fresh-length, fresh-bytes, fresh-is-sound}
 use Rattle.session_histories.proofs.Leaves.{place-leaves, take-leaves, collect-leaves}
 use Rattle.session_histories.proofs.Stored.{answer-leaves}
@@ -84,7 +85,7 @@ module _ (b : List ℕ) (e : soundBytes b ≡ true) where
 
   taken-again : only (takingUp b) ≡ done tt → (number b handAt ≡ 0 → ⊥) → abs (takenBytes b) ≡ takeUp (abs b) .1
   unfolding takeUp takeHand
-  taken-again ok n = ap abs (sym (again-leaves b ok (number b handAt) refl n)) ∙ rw (hand-full b (number b handAt) refl n)
+  taken-again ok n = ap abs (sym (again-leaves b ok (number b handAt) refl n)) ∙ rw (hand-full (number b handAt) n)
 
   taken-next : only (takingUp b) ≡ done tt → number b handAt ≡ 0 → abs (takenBytes b) ≡ takeUp (abs b) .1
   unfolding takeUp takeHand takeNext
@@ -94,7 +95,7 @@ module _ (b : List ℕ) (e : soundBytes b ≡ true) where
       let w = waits b e s (next-waits b ok z i refl s refl) in
       ap abs (sym (next-leaves b ok z i refl s refl))
       ∙ take-leaves b e s (w .stands-there .below)
-      ∙ rw (hand-empty b (number b handAt) refl z, next-found b ok z i refl)
+      ∙ rw (hand-empty (number b handAt) z, next-found b ok z i refl)
 
   pub take-does : abs (takenBytes b) ≡ takeUp (abs b) .1
   unfolding takenBytes stepTable
@@ -113,7 +114,7 @@ module _ (b : List ℕ) (e : soundBytes b ≡ true) where
     unfolding answer answerHand
     stored w =
         let n = answer-hand b t c a w (number b handAt) refl in
-        let f = hand-full b (number b handAt) refl n in
+        let f = hand-full (number b handAt) n in
         let q : w .number-held ≡ inHand b = cc (w .hand, f) in
         let named : names (slotOf b (inHand b)) t c ≡ true = rw (← q) (w .named) in
         sym (ap (λ g. answerHand (abs b) t c a g .1) f ∙ rw (named, w .dated, w .in-range))
@@ -121,7 +122,7 @@ module _ (b : List ℕ) (e : soundBytes b ≡ true) where
     answered-done : (w : Answerable b t c a) → abs (answeredBytes b t c a) ≡ answer (abs b) t c a .1
     answered-done w =
         let n = answer-hand b t c a w (number b handAt) refl in
-        let k = waits b e (inHand b) (hand-waits b e (inHand b) (hand-full b (number b handAt) refl n)) in
+        let k = waits b e (inHand b) (hand-waits b e (inHand b) (hand-full (number b handAt) n)) in
         ap abs (sym (answering-leaves b t c a w (number b handAt) refl)) ∙ answer-leaves b e (inHand b) k a (w .dated) (w .in-range) ∙ stored w
 
     pub answer-does : abs (answeredBytes b t c a) ≡ answer (abs b) t c a .1
@@ -209,10 +210,10 @@ module _ (b : List ℕ) (e : soundBytes b ≡ true) where
   unfolding stepBytes madeBytes placedBytes takenBytes answeredBytes collectedBytes putHead putSlot putEntry
   step-length (toMake itself max) = after-length (making b max) b (λ r. freshBytes max) (λ r. fresh-length max ∙ sym (sound-size b e))
   step-length (toMake (other m) max) = refl
-  step-length (toPlace p n) = after-length (placing b p n) b (placedAt b p n) (λ r. simp length-putNumber)
+  step-length (toPlace p n) = after-length (placing b p n) b (placedAt b p n) (λ r. simp (length-putNumber, length-putRow))
   step-length toTakeUp = after-length (takingUp b) b (takenAt b)
       (λ r. if-cond (λ (d : List ℕ). length d ≡ length b) (eqb (number b handAt) 0) (λ q. simp length-putNumber) (λ q. refl))
-  step-length (toAnswer t c a) = after-length (answering b t c a) b (λ r. answeredAs b a) (λ r. simp length-putNumber)
+  step-length (toAnswer t c a) = after-length (answering b t c a) b (λ r. answeredAs b a) (λ r. simp (length-putNumber, length-putRow))
   step-length (toCollect p t out) =
       after-length (collecting b p t (length out)) b (λ r. collectedAt b (readyIn b p t)) (λ r. simp length-putNumber)
 

@@ -1,8 +1,8 @@
--- What a write leaves as it was: numbers elsewhere, and whole slots. Assumes nothing.
-use Prim.Native.Nat.{ℕ, _+_, _-_, _*_, _≤_, _<_}
+-- What a write leaves as it was: numbers elsewhere, and whole slots.
+use Prim.Native.Nat.{ℕ, _+_, _-_, _≤_, _<_}
 use mathlib.Core.Path.{_≡_, refl, _∙_, ap, sym}
-use mathlib.Core.Bool.{true}
-use mathlib.Core.Logic.{_⊎_, inl, inr, ⊎-elim}
+use mathlib.Core.Bool.{true, cond}
+use mathlib.Core.Logic.{inl, inr, ⊎-elim}
 use mathlib.Core.List.{List}
 use native.Mathlib.Nat.{eq-zero-or-pos}
 use native.Mathlib.Omega.{arith}
@@ -10,75 +10,28 @@ use lib.ListN.{length}
 use Rattle.counts.specs.Limits.{commands, sessions}
 use Rattle.sessions.proofs.Loops.{first-same}
 use Rattle.sessions.specs.Find.{first}
-use Rattle.table_layout.proofs.Numbers.{number-same, number-other, length-putNumber}
-use Rattle.table_layout.specs.Layout.{slotNumbers, headAt, entryAt, answeredAt, number, putNumber, putHead, putEntry, entryOf}
-use Rattle.table_layout.specs.declared.Head.{Head}
+use Rattle.slot.proofs.Told.{told-answers, slot-beyond, slot-open, slot-held}
+use Rattle.slot.specs.Fields.{isTakenAt, answeredAt, entryAt, headOf, entryOf, slotOf}
+use Rattle.slot.specs.Stored.{putHead, putEntry}
+use Rattle.slot.specs.declared.Head.{Head}
+pub use Rattle.table_layout.proofs.Numbers.{Outside}
+use Rattle.table_layout.proofs.Numbers.{row-other}
+use Rattle.table_layout.specs.Layout.{slotNumbers, headAt, number, putRow}
 use Rattle.sessions.specs.declared.Answer.{Answer}
 use Rattle.table_search.proofs.Sounds.{stands}
-use Rattle.table_sound.proofs.Slots.{slot-beyond, slot-open, slot-held, answers-held}
-use Rattle.table_sound.specs.Bytes.{heldSlot, slotOf, soundBytes}
+use Rattle.table_sound.specs.Bytes.{soundBytes}
 
--- a place outside k numbers from at on
-abbrev pub Outside : ℕ → ℕ → ℕ → Type 0
-Outside j at k = (j < at) ⊎ (at + k ≤ j)
+-- a row that begins with no number before it
+pub from-0 : (b : List ℕ) (at : ℕ) (vs : List ℕ) (j : ℕ) → Outside j at (length vs) → number (putRow b at 0 vs) j ≡ number b j
+from-0 b at vs j o = row-other b at 0 vs j (⊎-elim (λ l. inl (omega arith)) (λ l. inr (omega arith)) o)
 
-not-in : (j at k i : ℕ) → Outside j at k → i < k → j ≡ at + i → ⊥
-not-in j at k i o l e = ⊎-elim (λ h. omega arith) (λ h. omega arith) o
-
-pub four-others : (b : List ℕ) (at v0 v1 v2 v3 j : ℕ) → Outside j at 4
-    → number (putNumber (putNumber (putNumber (putNumber b at v0) (at + 1) v1) (at + 2) v2) (at + 3) v3) j ≡ number b j
-four-others b at v0 v1 v2 v3 j o =
-    number-other _ (at + 3) v3 j (not-in j at 4 3 o (omega arith))
-    ∙ number-other _ (at + 2) v2 j (not-in j at 4 2 o (omega arith))
-    ∙ number-other _ (at + 1) v1 j (not-in j at 4 1 o (omega arith))
-    ∙ number-other b at v0 j (λ e. not-in j at 4 0 o (omega arith) (omega arith))
-
--- four numbers that were put are read back
-module _ (b : List ℕ) (at v0 v1 v2 v3 : ℕ) (room : 4 * at + 16 ≤ length b) where
-  b1 : List ℕ
-  b1 = putNumber b at v0
-
-  b2 : List ℕ
-  b2 = putNumber b1 (at + 1) v1
-
-  b3 : List ℕ
-  b3 = putNumber b2 (at + 2) v2
-
-  lengths : (length b1 ≡ length b) × (length b2 ≡ length b) × (length b3 ≡ length b)
-  unfolding b1 b2 b3
-  lengths = (simp length-putNumber, simp length-putNumber, simp length-putNumber)
-
-  pub record Four (d : List ℕ) : Type 0 where
-    pub first-number : number d at ≡ v0
-    pub second-number : number d (at + 1) ≡ v1
-    pub third-number : number d (at + 2) ≡ v2
-    pub fourth-number : number d (at + 3) ≡ v3
-
-  pub four-read : v0 < 4294967296 → v1 < 4294967296 → v2 < 4294967296 → v3 < 4294967296
-      → Four (putNumber (putNumber (putNumber (putNumber b at v0) (at + 1) v1) (at + 2) v2) (at + 3) v3)
-  unfolding b1 b2 b3
-  four-read l0 l1 l2 l3 =
-      record {
-        first-number =
-            number-other b3 (at + 3) v3 at (λ e. omega arith)
-            ∙ number-other b2 (at + 2) v2 at (λ e. omega arith)
-            ∙ number-other b1 (at + 1) v1 at (λ e. omega arith)
-            ∙ number-same b at v0 (omega arith) l0;
-        second-number =
-            number-other b3 (at + 3) v3 (at + 1) (λ e. omega arith)
-            ∙ number-other b2 (at + 2) v2 (at + 1) (λ e. omega arith)
-            ∙ number-same b1 (at + 1) v1 (omega (arith, lengths .0)) l1;
-        third-number = number-other b3 (at + 3) v3 (at + 2) (λ e. omega arith) ∙ number-same b2 (at + 2) v2 (omega (arith, lengths .1)) l2;
-        fourth-number = number-same b3 (at + 3) v3 (omega (arith, lengths .2)) l3;
-      }
-
-pub head-others : (b : List ℕ) (s : ℕ) (h : Head) (j : ℕ) → Outside j (headAt s) 4 → number (putHead b s h) j ≡ number b j
+pub head-others : (b : List ℕ) (s : ℕ) (h : Head) (j : ℕ) → Outside j (headAt s) 5 → number (putHead b s h) j ≡ number b j
 unfolding putHead
-head-others b s h j o = four-others b (headAt s) _ _ _ _ j o
+head-others b s h j o = from-0 b (headAt s) _ j o
 
 pub entry-others : (b : List ℕ) (s c : ℕ) (a : Answer) (j : ℕ) → Outside j (entryAt s c) 4 → number (putEntry b s c a) j ≡ number b j
 unfolding putEntry
-entry-others b s c a j o = four-others b (entryAt s c) _ _ _ _ j o
+entry-others b s c a j o = from-0 b (entryAt s c) _ j o
 
 -- an entry whose four numbers are the same
 pub entry-same : (b d : List ℕ) (s c : ℕ) → ((j : ℕ) → entryAt s c ≤ j → j < entryAt s c + 4 → number d j ≡ number b j) → entryOf d s c ≡ entryOf b s c
@@ -104,30 +57,29 @@ module _ (b : List ℕ) (e : soundBytes b ≡ true) (d : List ℕ) (s : ℕ) (sa
   entries-same : (n : ℕ) → n ≤ commands → first n (λ i. entryOf d s (i + 1)) ≡ first n (λ i. entryOf b s (i + 1))
   entries-same n l = first-same n _ _ (λ i k. entry-same b d s (i + 1) (λ j low high. same j (omega arith) (omega arith)))
 
+  head-same : headOf d s ≡ headOf b s
+  unfolding headOf
+  head-same =
+      rw (
+        same (isTakenAt s) (omega arith) (omega arith),
+        same (headAt s + 1) (omega arith) (omega arith),
+        same (headAt s + 2) (omega arith) (omega arith),
+        same (answeredAt s) (omega arith) (omega arith),
+        same (headAt s + 4) (omega arith) (omega arith),
+      )
+
   -- and so is what the slot holds
   pub slot-same : slotOf d s ≡ slotOf b s
   slot-same =
       ⊎-elim
       (λ z. slot-beyond d s (omega arith) ∙ sym (slot-beyond b s (omega arith)))
-      (λ z. ⊎-elim (λ y. slot-open d s (program ∙ y) ∙ sym (slot-open b s y)) (λ y. held (omega arith) y) (eq-zero-or-pos (number b (headAt s))))
+      (λ z. ⊎-elim (λ y. slot-open d s (ap (λ h. h .taken) head-same ∙ y) ∙ sym (slot-open b s y)) (λ y. held (omega arith) (λ q. omega arith)) (eq-zero-or-pos (headOf b s .taken)))
       (eq-zero-or-pos (sessions - s))
     where
-      program : number d (headAt s) ≡ number b (headAt s)
-      program = same (headAt s) (omega arith) (omega arith)
-
-      held : s < sessions → 1 ≤ number b (headAt s) → slotOf d s ≡ slotOf b s
-      held l k =
-          let n : number b (headAt s) ≡ 0 → ⊥ = λ z. omega arith in
+      held : s < sessions → (headOf b s .taken ≡ 0 → ⊥) → slotOf d s ≡ slotOf b s
+      held l n =
           let hb = slot-held b s l n in
-          let w = stands b e (λ x. x .program) refl s (omega (arith, ap (λ x. x .program) hb)) in
-          let few : number b (answeredAt s) ≤ commands = omega (arith, w .session .answers-few, w .session .count-high, ap (λ x. length (x .answers)) hb, answers-held b s) in
-          let hd : slotOf d s ≡ heldSlot d s = slot-held d s l (λ z. n (sym program ∙ z)) in
-          hd
-          ∙ rw (
-            program,
-            same (headAt s + 1) (omega arith) (omega arith),
-            same (answeredAt s) (omega arith) (omega arith),
-            same (headAt s + 3) (omega arith) (omega arith),
-            entries-same (number b (answeredAt s)) few,
-          )
-          (sym hb)
+          let w = stands b e (λ x. cond (x .taken) 1 0) refl s (rw hb (omega arith)) in
+          let few : headOf b s .answered ≤ commands =
+          omega (arith, w .session .answers-few, w .session .count-high, ap (λ x. length (x .answers)) hb, told-answers (headOf b s) (entryOf b s)) in
+          slot-held d s l (λ z. n (sym (ap (λ h. h .taken) head-same) ∙ z)) ∙ rw (head-same, entries-same (headOf b s .answered) few) (sym hb)

@@ -3,7 +3,7 @@ use Prim.Native.Nat.{ℕ, zero, suc, _+_, _-_, _*_, _≤_}
 use mathlib.Core.Path.{_≡_, refl, _∙_}
 use mathlib.Core.Bool.{true}
 use mathlib.Core.Logic.{⊎-elim, inr}
-use mathlib.Core.List.{List}
+use mathlib.Core.List.{List, [], _∷_}
 use native.Mathlib.Nat.{eq-zero-or-pos}
 use native.Mathlib.Omega.{arith}
 use lib.ListN.{length, getD, replicate, length-replicate, getD-replicate, List·getD-eq-default}
@@ -13,11 +13,12 @@ use Rattle.sessions.proofs.Parts.{parts-sound}
 use Rattle.sessions.proofs.SoundKept.{fresh-sound}
 use Rattle.sessions.specs.Table.{fresh}
 use Rattle.session_table.specs.Calls.{freshBytes}
-use Rattle.table_layout.proofs.Numbers.{length-putNumber}
+use Rattle.slot.proofs.Told.{slot-open}
+use Rattle.slot.specs.Fields.{headOf}
+use Rattle.table_layout.proofs.Numbers.{length-putRow, row-same}
 use Rattle.table_layout.specs.Layout.{tableBytes, headAt, number, putTable}
-use Rattle.table_sound.proofs.Slots.{slot-open}
 use Rattle.table_sound.specs.Bytes.{handOf, abs, soundBytes}
-use Rattle.session_histories.proofs.Frames.{four-read, four-others}
+use Rattle.session_histories.proofs.Frames.{from-0}
 use Rattle.session_histories.proofs.Leaves.{state-same}
 
 abbrev zeros : ℕ → List ℕ
@@ -41,16 +42,17 @@ zero-number n j = zero-wide 4 n (4 * j)
 
 pub fresh-length : (max : ℕ) → length (freshBytes max) ≡ tableBytes
 unfolding freshBytes putTable
-fresh-length max = simp (length-putNumber, length-replicate)
+fresh-length max = length-putRow (zeros tableBytes) 0 0 _ ∙ length-replicate {A = ℕ} tableBytes 0
 
 module _ (max : ℕ) (low : 1 ≤ max) (high : max ≤ sessions) where
   pub fresh-bytes : abs (freshBytes max) ≡ fresh max
-  unfolding freshBytes putTable fresh handOf
+  unfolding freshBytes putTable fresh handOf headOf
   fresh-bytes =
       let z = zeros tableBytes in
-      let f = four-read z 0 max 0 (max - 1) 0 (rw length-replicate (omega arith)) (omega arith) (omega arith) (omega arith) (omega arith) in
-      state-same (f .first-number) (f .second-number) (f .third-number) (rw (f .fourth-number))
-      (λ s. slot-open _ s (four-others z 0 max 0 (max - 1) 0 (headAt s) (inr (omega arith)) ∙ zero-number tableBytes (headAt s)))
+      let vs : List ℕ = max ∷ 0 ∷ (max - 1) ∷ 0 ∷ [] in
+      let read = row-same z 0 0 vs (rw length-replicate (omega arith)) (omega arith, (omega arith, (omega arith, (omega arith, tt)))) in
+      state-same (read 0 0 (omega arith) refl) (read 1 1 (omega arith) refl) (read 2 2 (omega arith) refl) (rw (read 3 3 (omega arith) refl))
+      (λ s. slot-open _ s (from-0 z 0 vs (headAt s) (inr (omega arith)) ∙ zero-number tableBytes (headAt s)))
 
   pub fresh-is-sound : soundBytes (freshBytes max) ≡ true
   unfolding soundBytes

@@ -1,4 +1,4 @@
--- What answering writes, as what the table without bytes does: one slot's entry and what is in hand. Assumes nothing.
+-- What answering writes, as what the table without bytes does: one slot's entry and what is in hand.
 use Prim.Native.Nat.{ℕ, _+_, _≤_, _<_}
 use mathlib.Core.Path.{_≡_, refl, _∙_, ap, sym}
 use mathlib.Core.Bool.{true}
@@ -8,7 +8,7 @@ use native.Mathlib.Omega.{arith}
 use native.Mathlib.Numerals.{add-one}
 use borrow.Author.Tests.{ne-eqb, leb-true}
 use lib.Dec.{leb}
-use lib.ListN.{length}
+use lib.ListN.{length, getD}
 use Rattle.calendar.proofs.Laws.{date-lt, time-lt}
 use Rattle.calendar.specs.Calendar.{realDate, realTime}
 use Rattle.counts.specs.Limits.{commands, sessions, classMost, codeMost}
@@ -22,14 +22,15 @@ use Rattle.sessions.specs.Table.{withAnswer, afterAnswer}
 use Rattle.sessions.specs.declared.Answer.{Answer}
 use Rattle.record.specs.declared.Outcome.{Outcome}
 use Rattle.record.specs.declared.Outcome.the-variants.{Processed, Error}
-use Rattle.table_layout.proofs.Numbers.{number-same, number-other, length-putNumber}
-use Rattle.table_layout.specs.Layout.{slotNumbers, tableBytes, headAt, entryAt, answeredAt, maxAt, lastAt, markAt, handAt, number, putNumber, headOf, putEntry, entryOf, outcomeOf, kindOf, codeOf}
+use Rattle.slot.proofs.Told.{slot-held}
+use Rattle.slot.specs.Fields.{answeredAt, entryAt, headOf, outcomeOf, entryOf, sessionOf, slotOf}
+use Rattle.slot.specs.Stored.{kindOf, codeOf, putEntry, withEntry, takenOut, putSlot}
+use Rattle.table_layout.proofs.Numbers.{Outside, number-same, number-other, length-putNumber, length-putRow, row-same}
+use Rattle.table_layout.specs.Layout.{slotNumbers, tableBytes, headAt, maxAt, lastAt, markAt, handAt, number, putNumber}
 use Rattle.table_search.proofs.Sounds.{sound-size, Waits}
-use Rattle.table_slot.specs.Slots.{withEntry, slotAt, putSlot}
-use Rattle.table_sound.proofs.Slots.{slot-held}
-use Rattle.table_sound.specs.Bytes.{handOf, slotOf, abs, soundBytes}
-use Rattle.session_histories.proofs.Frames.{Outside, four-read, entry-others, entry-same, slots-apart, slot-same}
-use Rattle.session_histories.proofs.Leaves.{state-same, slots-put}
+use Rattle.table_sound.specs.Bytes.{handOf, abs, soundBytes}
+use Rattle.session_histories.proofs.Frames.{entry-others, entry-same, slots-apart, slot-same}
+use Rattle.session_histories.proofs.Leaves.{state-same, slots-replaced}
 
 -- an outcome in range is read back
 outcome-back : (o : Outcome) → outcomeOf (kindOf o) (codeOf o) ≡ o
@@ -72,11 +73,12 @@ module _ (b : List ℕ) (e : soundBytes b ≡ true) (s : ℕ) (w : Waits b e s) 
   below = w .stands-there .below
 
   few : n < commands
+  unfolding headOf
   few = w .answers-few
 
   length-d1 : length d1 ≡ length b
   unfolding putEntry
-  length-d1 = simp length-putNumber
+  length-d1 = length-putRow b (entryAt s (n + 1)) 0 _
 
   length-d2 : length d2 ≡ length b
   length-d2 = length-putNumber d1 (answeredAt s) (n + 1) ∙ length-d1
@@ -99,11 +101,13 @@ module _ (b : List ℕ) (e : soundBytes b ≡ true) (s : ℕ) (w : Waits b e s) 
   entry-is =
       let o = outcome-fits (a .outcome) ranged in
       let t = date-fits a dated in
-      let f = four-read b (entryAt s (n + 1)) (kindOf (a .outcome)) (codeOf (a .outcome)) (a .date) (a .time) (omega (arith, size, below, few)) (o .0) (o .1) (t .0) (t .1) in
-      let e0 = in-entry (entryAt s (n + 1)) (omega arith) ∙ f .first-number in
-      let e1 = in-entry (entryAt s (n + 1) + 1) (omega arith) ∙ f .second-number in
-      let e2 = in-entry (entryAt s (n + 1) + 2) (omega arith) ∙ f .third-number in
-      let e3 = in-entry (entryAt s (n + 1) + 3) (omega arith) ∙ f .fourth-number in
+      let vs : List ℕ = kindOf (a .outcome) ∷ codeOf (a .outcome) ∷ a .date ∷ a .time ∷ [] in
+      let read : (i j : ℕ) → i < 4 → j ≡ entryAt s (n + 1) + 0 + i → number d j ≡ getD vs i 0 = λ i j l q.
+      in-entry j (omega arith) ∙ row-same b (entryAt s (n + 1)) 0 vs (omega (arith, size, below, few)) (o .0, (o .1, (t .0, (t .1, tt)))) i j l q in
+      let e0 = read 0 (entryAt s (n + 1)) (omega arith) (omega arith) in
+      let e1 = read 1 (entryAt s (n + 1) + 1) (omega arith) (omega arith) in
+      let e2 = read 2 (entryAt s (n + 1) + 2) (omega arith) (omega arith) in
+      let e3 = read 3 (entryAt s (n + 1) + 3) (omega arith) (omega arith) in
       rw (e0, e1, e2, e3, outcome-back (a .outcome))
 
   entry-before : (i : ℕ) → i < n → entryOf d s (i + 1) ≡ entryOf b s (i + 1)
@@ -115,14 +119,25 @@ module _ (b : List ℕ) (e : soundBytes b ≡ true) (s : ℕ) (w : Waits b e s) 
       ap (λ k. first k (λ i. entryOf d s (i + 1))) (add-one n)
       ∙ rw (first-same n (λ i. entryOf d s (i + 1)) (λ i. entryOf b s (i + 1)) entry-before, entry-is)
 
-  head-is : (k : ℕ) → (k ≡ 2 → ⊥) → k < 4 → number d (headAt s + k) ≡ number b (headAt s + k)
-  head-is k m l = other (headAt s + k) (inl (omega arith)) (λ z. m (omega arith)) (λ z. omega arith)
+  stored-head : headOf d s ≡ withEntry (takenOut b s) a .head
+  unfolding takenOut headOf
+  stored-head =
+      let keep : (j : ℕ) → j < headAt s + 5 → headAt s ≤ j → (j ≡ answeredAt s → ⊥) → number d j ≡ number b j = λ j l k m. other j (inl (omega arith)) m (λ z. omega arith) in
+      λ k. record {
+        taken = keep (headAt s) (omega arith) (omega arith) (λ z. omega arith) k;
+        program = keep (headAt s + 1) (omega arith) (omega arith) (λ z. omega arith) k;
+        count = keep (headAt s + 2) (omega arith) (omega arith) (λ z. omega arith) k;
+        answered = answered-is k;
+        ticket = record { 0 = keep (headAt s + 4) (omega arith) (omega arith) (λ z. omega arith) k };
+      }
 
   stored-slot : slotOf d s ≡ withAnswer (slotOf b s) a
+  unfolding takenOut headOf
   stored-slot =
-      let p : number d (headAt s) ≡ number b (headAt s) = other (headAt s) (inl (omega arith)) (λ z. omega arith) (λ z. omega arith) in
-      slot-held d s below (λ z. w .stands-there .program (sym p ∙ z))
-      ∙ rw (p, head-is 1 (λ z. omega arith) (omega arith), head-is 3 (λ z. omega arith) (omega arith), answered-is, answers-are, w .stands-there .held)
+      slot-held d s below (λ z. w .stands-there .taken (sym (ap (λ h. h .taken) stored-head) ∙ z))
+      ∙ ap (λ h. sessionOf h (entryOf d s)) stored-head
+      ∙ ap (λ l. record { taken = true; program = headOf b s .program; count = headOf b s .count; ticket = headOf b s .ticket .0; answers = l }) answers-are
+      ∙ ap (λ x. withAnswer x a) (sym (w .stands-there .held))
 
   stored-leaves : abs d ≡ afterAnswer (abs b) s a
   unfolding handOf
@@ -132,7 +147,7 @@ module _ (b : List ℕ) (e : soundBytes b ≡ true) (s : ℕ) (w : Waits b e s) 
       (other lastAt (inl (omega arith)) (λ z. omega arith) (λ z. omega arith))
       (other markAt (inl (omega arith)) (λ z. omega arith) (λ z. omega arith))
       (rw (number-same d2 handAt 0 (omega (arith, size, length-d2)) (omega arith)))
-      (slots-put (slotOf b) (slotOf d) s (withAnswer (slotOf b s) a) stored-slot
+      (slots-replaced (slotOf b) (slotOf d) s (withAnswer (slotOf b s) a) stored-slot
       (λ i m. slot-same b e d i (λ j l h. elsewhere i m j l h)))
     where
       elsewhere : (i : ℕ) → (i ≡ s → ⊥) → (j : ℕ) → headAt i ≤ j → j < headAt i + slotNumbers → number d j ≡ number b j
@@ -143,6 +158,6 @@ module _ (b : List ℕ) (e : soundBytes b ≡ true) (s : ℕ) (w : Waits b e s) 
           (λ z. omega arith)
 
   -- the words of the contract are these writes
-  pub answer-leaves : abs (putNumber (putSlot b s (withEntry (slotAt b s) a)) handAt 0) ≡ afterAnswer (abs b) s a
-  unfolding putSlot slotAt headOf
+  pub answer-leaves : abs (putNumber (putSlot b s (withEntry (takenOut b s) a)) handAt 0) ≡ afterAnswer (abs b) s a
+  unfolding putSlot takenOut headOf
   answer-leaves = stored-leaves

@@ -1,11 +1,11 @@
--- Answering: the ways through its tests, and what it leaves. Assumes nothing.
-use Prim.Native.Nat.{ℕ, _+_, _-_, _≤_}
+-- Answering: the ways through its tests, and what it leaves.
+use Prim.Native.Nat.{ℕ, _-_, _≤_}
 use mathlib.Core.Path.{_≡_, refl, _∙_, ap, sym}
-use mathlib.Core.Bool.{Bool, true, false, not, _&&_, false≢true}
+use mathlib.Core.Bool.{Bool, true, false, not, false≢true}
 use mathlib.Core.List.{List}
 use native.Mathlib.Omega.{arith}
 use borrow.Author.Tests.{leb-true}
-use lib.Dec.{eqb, leb}
+use lib.Dec.{leb}
 use Rattle.counts.specs.Limits.{classMost, codeMost}
 use Rattle.counts.specs.Refusals.{notReal, notARecord, notTheOne, unsound, refusal}
 use Rattle.counts.specs.Result.{refused, done}
@@ -19,15 +19,17 @@ use Rattle.sessions.specs.Table.{State, names, answerHand, answer}
 use Rattle.sessions.specs.declared.Answer.{Answer}
 use Rattle.record.specs.declared.Outcome.{Outcome}
 use Rattle.record.specs.declared.Outcome.the-variants.{Processed, Error}
-use Rattle.table_layout.specs.Layout.{number, handAt, kindOf, headOf}
-use Rattle.table_layout.specs.declared.Head.{Head}
+use Rattle.slot.proofs.Told.{asked}
+use Rattle.slot.specs.Fields.{headOf, slotOf, Tells}
+use Rattle.slot.specs.Stored.{kindOf}
+use Rattle.slot.specs.declared.Head.{Head}
+use Rattle.table_layout.specs.Layout.{number, handAt}
 use Rattle.table_search.proofs.Sounds.{Waits, waits, hand-waits}
-use Rattle.table_sound.proofs.Slots.{answers-held}
-use Rattle.table_sound.specs.Bytes.{handOf, slotOf, abs, soundBytes}
+use Rattle.table_sound.proofs.Slots.{hand-empty, hand-full}
+use Rattle.table_sound.specs.Bytes.{handOf, abs, soundBytes}
 use Rattle.session_table.specs.Calls.{only, verdict, namesHand, answering, answeredAs, answeredBytes}
 use Rattle.session_table.specs.Paper.{paperAnswered}
 use Rattle.session_table.specs.declared.Answered.the-variants.{Refused as NotAnswered}
-use Rattle.session_table.proofs.Hands.{hand-empty, hand-full}
 use Rattle.session_table.proofs.Verdicts.{passed, passed-both, is-done, is-refused, keeps-bytes}
 
 -- a test and its opposite
@@ -48,15 +50,14 @@ kind-fits (Error class code) e = omega (arith, leb-true class classMost (and-lef
 -- whether the command in hand is named, on the bytes
 module _ (b : List ℕ) (h : ℕ) (q : h ≡ number b handAt) (sound : soundBytes b ≡ true) where
   pub names-none : (t c : ℕ) → h ≡ 0 → false ≡ namesHand (abs b) t c (handOf (number b handAt))
-  names-none t c e = rw (hand-empty b h q e)
+  names-none t c e = rw (← q, hand-empty h e)
 
   pub in-hand : (h ≡ 0 → ⊥) → Waits b sound (h - 1)
-  in-hand n = waits b sound (h - 1) (hand-waits b sound (h - 1) (hand-full b h q n))
+  in-hand n = waits b sound (h - 1) (hand-waits b sound (h - 1) (ap handOf (sym q) ∙ hand-full h n))
 
-  pub names-is : (n : h ≡ 0 → ⊥) (t c : ℕ) (x : Head) → x ≡ headOf b (h - 1)
-      → (eqb (x .ticket .0) t && eqb (x .answered + 1) c) ≡ namesHand (abs b) t c (handOf (number b handAt))
-  unfolding names headOf
-  names-is n t c x p = rw (hand-full b h q n, in-hand n .stands-there .held, answers-held b (h - 1), p)
+  pub names-is : (h ≡ 0 → ⊥) → (t c : ℕ) (x : Head) → x ≡ headOf b (h - 1) → (r : Bool) → Tells x (λ y. names y t c) r
+      → r ≡ namesHand (abs b) t c (handOf (number b handAt))
+  names-is n t c x p r said = sym (asked b (h - 1) x p (in-hand n .stands-there .below) (λ y. names y t c) said refl) ∙ rw (← q, hand-full h n)
 
 -- the four ways, whatever is in hand
 module _ (σ : State) (t c : ℕ) (a : Answer) where
@@ -141,7 +142,7 @@ module _ (b : List ℕ) (t c : ℕ) (a : Answer) where
   module _ (w : Answerable) (h : ℕ) (q : h ≡ number b handAt) where
     pub answer-hand : h ≡ 0 → ⊥
     answer-hand e =
-        let p = sym (hand-empty b h q e) ∙ w .hand in
+        let p = sym (hand-empty h e) ∙ ap handOf q ∙ w .hand in
         let z : _≡_ {A = ℕ} 0 1 = cc in
         omega arith
 

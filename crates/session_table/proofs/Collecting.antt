@@ -1,4 +1,4 @@
--- Collecting: the ways through its tests, and what it leaves. Assumes nothing.
+-- Collecting: the ways through its tests, and what it leaves.
 use Prim.Native.Nat.{ℕ, _+_, _≤_, _<_}
 use mathlib.Core.Path.{_≡_, refl, _∙_, ap, sym}
 use mathlib.Core.Bool.{true, false}
@@ -12,24 +12,25 @@ use Rattle.counts.specs.Refusals.{notTheOne, outOfRange, tooLittleRoom, unsound
 use Rattle.counts.specs.Result.{refused, done}
 use Rattle.counts.specs.declared.Refusal.{Refusal}
 use Rattle.field.specs.Part.{put, Wrote}
-use Rattle.sessions.proofs.Laws.{must-find, is-ready, refused≢done}
+use Rattle.sessions.proofs.Laws.{must-find, in-range, is-ready, refused≢done}
 use Rattle.sessions.proofs.Loops.{find-at, all-real}
 use Rattle.sessions.specs.Find.{none, at, orNone, all}
 use Rattle.sessions.specs.Table.{within, isReady, reply, collect, collectFrom}
-use Rattle.table_layout.specs.Layout.{number, maxAt, answeredAt, entryOf, headOf}
-use Rattle.table_layout.specs.declared.Head.{Head}
+use Rattle.slot.proofs.Told.{told-answers}
+use Rattle.slot.specs.Fields.{headOf, entryOf, slotOf}
+use Rattle.slot.specs.declared.Head.{Head}
+use Rattle.table_layout.specs.Layout.{number, maxAt}
 use Rattle.table_reply.specs.Reply.{replyOf}
 use Rattle.table_search.specs.Search.{readyFound}
 use Rattle.table_search.proofs.Sounds.{Stands, stands}
-use Rattle.table_sound.proofs.Slots.{answers-held}
-use Rattle.sessions.specs.Sound.{isReal, allReal}
-use Rattle.table_sound.specs.Bytes.{slotOf, abs, soundBytes}
+use Rattle.sessions.specs.Sound.{inRangeAndReal, allReal}
+use Rattle.table_sound.specs.Bytes.{abs, soundBytes}
 use Rattle.session_table.specs.Calls.{only, verdict, collecting, readyIn, collectedAt, collectedBytes, collectedOut}
 use Rattle.session_table.specs.Collect.{Collects}
 use Rattle.session_table.specs.Paper.{paperCollected}
 use Rattle.session_table.specs.declared.Collected.{Collected}
 use Rattle.session_table.specs.declared.Collected.the-variants.{Written, Refused as NotCollected}
-use Rattle.session_table.proofs.Verdicts.{passed, passed-both, is-done, is-refused, keeps-bytes}
+use Rattle.session_table.proofs.Verdicts.{passed, passed-both, is-refused, keeps-bytes}
 
 module _ (b : List ℕ) (p t room : ℕ) where
   pub collect-13 : soundBytes b ≡ false → verdict unsound ≡ only (collecting b p t room)
@@ -54,14 +55,8 @@ module _ (b : List ℕ) (p t room : ℕ) where
       unfolding collecting collect collectFrom
       collect-is k = rw (sound, range, found, le-leb (length (reply (slotOf b s))) room k)
 
-      pub collect-0 : length (reply (slotOf b s)) ≤ room → verdict 0 ≡ only (collecting b p t room)
-      collect-0 k = rw (← (collect-is k))
-
-  -- the two halves together: no refusal, or the one that was found and no byte changed
+  -- the refusal that was found, and no byte changed
   module _ (no : ℕ) (said : verdict no ≡ only (collecting b p t room)) where
-    pub collect-passes : no ≡ 0 → only (collecting b p t room) ≡ done tt
-    collect-passes = is-done (collecting b p t room) no said
-
     pub collect-refuses : (out : List ℕ) (f : Refusal) → room ≡ length out → f ≡ refusal no 0 → (no ≡ 0 → ⊥) → Collects b p t out (NotCollected f) b out
     unfolding paperCollected collectedBytes collectedOut
     collect-refuses out f q r d =
@@ -81,6 +76,12 @@ module _ (b : List ℕ) (p t room : ℕ) where
     pub below : number-ready < number b maxAt
     pub ready : isReady p t (slotOf b number-ready) ≡ true
     pub room-enough : length (reply (slotOf b number-ready)) ≤ room
+
+  pub collectable-at : soundBytes b ≡ true → within 1 p programs ≡ true → (s : ℕ) → readyFound b p t ≡ at s → length (reply (slotOf b s)) ≤ room
+      → Collectable
+  collectable-at sound range s e fits =
+      let f = find-at (λ i. isReady p t (slotOf b i)) (number b maxAt) e in
+      record { sound = sound; range = range; number-ready = s; found = e; below = f .0; ready = f .1; room-enough = fits }
 
   pub collectable : only (collecting b p t room) ≡ done tt → Collectable
   unfolding collecting collect collectFrom
@@ -113,32 +114,30 @@ module _ (b : List ℕ) (p t room : ℕ) where
     collect-leaves = rw (← collect-done) (ap (collectedAt b) found)
 
 -- the session that is collected, on its bytes
-module _ (b : List ℕ) (p t : ℕ) (sound : soundBytes b ≡ true) (low : 1 ≤ p) (s : ℕ) (found : readyFound b p t ≡ at s) where
+module _ (b : List ℕ) (p t : ℕ) (sound : soundBytes b ≡ true) (range : within 1 p programs ≡ true) (s : ℕ) (found : readyFound b p t ≡ at s) where
   facts : (slotOf b s .program ≡ p) × (slotOf b s .ticket ≡ t) × (length (slotOf b s .answers) ≡ slotOf b s .count)
   facts = is-ready p t (slotOf b s) (find-at (λ i. isReady p t (slotOf b i)) (number b maxAt) found .1)
 
   pub ready-stands : Stands b sound s
-  ready-stands = stands b sound (λ x. x .program) refl s (omega (arith, facts .0))
+  ready-stands = stands b sound (λ x. x .program) refl s (omega (arith, facts .0, in-range 1 p programs range .0))
 
   module _ (h : Head) (q : h ≡ headOf b s) where
-    all-answered : h .count ≡ number b (answeredAt s)
-    unfolding headOf
+    all-answered : h .count ≡ headOf b s .answered
     all-answered =
         let e = ready-stands .held in
-        omega (arith, ap (λ x. x .count) q, ap (λ x. x .count) e, ap (λ x. length (x .answers)) e, answers-held b s, facts .2)
+        omega (arith, ap (λ x. x .count) q, ap (λ x. x .count) e, ap (λ x. length (x .answers)) e, told-answers (headOf b s) (entryOf b s), facts .2)
 
     pub ready-few : h .count ≤ commands
-    unfolding headOf
     ready-few = omega (arith, ap (λ x. x .count) q, ap (λ x. x .count) (ready-stands .held), ready-stands .session .count-high)
 
     pub ready-reply : replyOf b s (h .count) ≡ reply (slotOf b s)
     unfolding replyOf
     ready-reply = rw (all-answered, ready-stands .held)
 
-    pub ready-real : all (h .count) (λ i. isReal (entryOf b s (i + 1))) ≡ true
+    pub ready-real : all (h .count) (λ i. inRangeAndReal (entryOf b s (i + 1))) ≡ true
     ready-real =
         rw all-answered
-        (sym (all-real (number b (answeredAt s)) (λ i. entryOf b s (i + 1))) ∙ sym (ap (λ x. allReal (x .answers)) (ready-stands .held)) ∙ ready-stands .session .answers-real)
+        (sym (all-real (headOf b s .answered) (λ i. entryOf b s (i + 1))) ∙ sym (ap (λ x. allReal (x .answers)) (ready-stands .held)) ∙ ready-stands .session .answers-real)
 
 -- what was written, and the number open again, are what collecting leaves
 pub collects-is : (b : List ℕ) (p t : ℕ) (out : List ℕ) (w : Collectable b p t (length out)) (s : ℕ) → s ≡ readyIn b p t → (bs f e : List ℕ) {n : ℕ}

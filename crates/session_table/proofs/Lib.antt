@@ -2,7 +2,6 @@ pub mod Verdicts
 pub mod Searches
 pub mod Making
 pub mod Placing
-pub mod Hands
 pub mod Turns
 pub mod Answering
 pub mod Collecting

@@ -1,4 +1,4 @@
--- What each call of the table answers on lent bytes, and the bytes at its exit. Assumes nothing.
+-- What each call of the table answers on lent bytes, and the bytes at its exit.
 use Prim.Native.Nat.{ℕ, _+_, _-_, _*_, _≤_, _<_}
 use mathlib.Core.Bool.{Bool, false, cond}
 use mathlib.Core.List.{List}
@@ -12,10 +12,10 @@ use Rattle.field.specs.Part.{put}
 use Rattle.sessions.specs.Table.{State, within, place, takeUp, names, answer, isReady, collect}
 use Rattle.sessions.specs.Find.{Found, none, at, orNone, find}
 use Rattle.sessions.specs.declared.Answer.{Answer}
-use Rattle.table_layout.specs.Layout.{tableBytes, maxAt, headAt, number, putNumber, lastAt, markAt, handAt, freshTable, putTable, putHead}
-use Rattle.table_layout.specs.declared.Head.{Head}
-use Rattle.table_slot.specs.Slots.{withEntry, slotAt, putSlot}
-use Rattle.table_sound.specs.Bytes.{slotOf, abs, soundBytes}
+use Rattle.slot.specs.Fields.{isTakenAt, slotOf}
+use Rattle.slot.specs.Stored.{newHead, putHead, withEntry, takenOut, putSlot}
+use Rattle.table_layout.specs.Layout.{tableBytes, maxAt, number, putNumber, lastAt, markAt, handAt, freshTable, putTable}
+use Rattle.table_sound.specs.Bytes.{abs, soundBytes}
 
 -- a byte i outside the k numbers of four bytes that stand from the number `from` on
 abbrev pub Beyond : ℕ → ℕ → ℕ → Type 0
@@ -61,11 +61,8 @@ madeBytes b max = after (making b max) b (λ r. freshBytes max)
 unfoldable pub placing : List ℕ → ℕ → ℕ → Result (ℕ × ℕ)
 placing b p n = ifSound b (place (abs b) p n .0)
 
-abbrev pub newHead : ℕ → ℕ → ℕ → Head
-newHead p n t = record { program = p; count = n; answered = 0; ticket = record { 0 = t } }
-
 abbrev pub placedAt : List ℕ → ℕ → ℕ → ℕ × ℕ → List ℕ
-placedAt b p n r = putNumber (putHead b (r .0) (newHead p n (r .1))) lastAt (r .1)
+placedAt b p n r = putNumber (putHead b (r .0) (newHead p n (record { 0 = r .1 }))) lastAt (r .1)
 
 unfoldable pub placedBytes : List ℕ → ℕ → ℕ → List ℕ
 placedBytes b p n = after (placing b p n) b (placedAt b p n)
@@ -90,7 +87,7 @@ unfoldable pub answering : List ℕ → ℕ → ℕ → Answer → Result (Unit 
 answering b t c a = ifSound b (answer (abs b) t c a .0)
 
 abbrev pub answeredAs : List ℕ → Answer → List ℕ
-answeredAs b a = putNumber (putSlot b (inHand b) (withEntry (slotAt b (inHand b)) a)) handAt 0
+answeredAs b a = putNumber (putSlot b (inHand b) (withEntry (takenOut b (inHand b)) a)) handAt 0
 
 unfoldable pub answeredBytes : List ℕ → ℕ → ℕ → Answer → List ℕ
 answeredBytes b t c a = after (answering b t c a) b (λ r. answeredAs b a)
@@ -103,7 +100,7 @@ abbrev pub readyIn : List ℕ → ℕ → ℕ → ℕ
 readyIn b p t = orNone (find (number b maxAt) (λ s. isReady p t (slotOf b s))) (number b maxAt)
 
 abbrev pub collectedAt : List ℕ → ℕ → List ℕ
-collectedAt b s = putNumber b (headAt s) 0
+collectedAt b s = putNumber b (isTakenAt s) 0
 
 unfoldable pub collectedBytes : List ℕ → ℕ → ℕ → ℕ → List ℕ
 collectedBytes b p t room = after (collecting b p t room) b (λ r. collectedAt b (readyIn b p t))

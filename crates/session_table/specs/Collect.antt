@@ -1,4 +1,4 @@
--- What collecting answers, and what it leaves of the table and of the lent output. Assumes nothing.
+-- What collecting answers, and what it leaves of the table and of the lent output.
 use Prim.Native.Nat.{ℕ}
 use mathlib.Core.Path.{_≡_}
 use mathlib.Core.List.{List}

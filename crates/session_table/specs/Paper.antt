@@ -1,4 +1,4 @@
--- Document 01's number and values for each answer of the table's calls. Assumes nothing.
+-- Document 01's number and values for each answer of the table's calls.
 use Prim.Native.Nat.{ℕ}
 use Rattle.counts.specs.Result.{Result, done, refusedAs}
 use Rattle.session_table.specs.declared.Answered.{Answered}

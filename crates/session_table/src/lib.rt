@@ -1,6 +1,6 @@
-// The session table: make, place, take up, answer, collect. Each call is a thin function over one that gives the number of the refusal, in
-// document 01's order and 0 for none, and one that does what the call does where there is none. Only take up is one way through, so that it
-// goes round the sessions once.
+// The session table: make, place, take up, answer, collect. Making and answering are each a thin function over one that gives the number of the
+// refusal, in document 01's order and 0 for none, and one that does what the call does where there is none. The others are one way through, so
+// that they search the sessions once.
 use counts::ALL_TAKEN;
 use counts::CommandNumber;
 use counts::NO_TICKET_LEFT;
@@ -16,36 +16,35 @@ use counts::Ticket;
 use counts::UNSOUND;
 use record::Outcome;
 use sessions::Answer;
-use table_layout::Head;
+use slot::Head;
+use slot::answer_slot;
+use slot::get_head;
+use slot::open_number;
+use slot::put_head;
 use table_layout::Table;
-use table_layout::get_head;
 use table_layout::get_table;
 use table_layout::put_hand;
-use table_layout::put_head;
 use table_layout::put_last;
 use table_layout::put_mark;
-use table_layout::put_program;
 use table_layout::put_table;
 use table_reply::reply_length;
 use table_reply::write_reply;
-use table_search::Found;
-use table_search::has_open;
+use table_search::SessionFound;
 use table_search::lowest_open;
 use table_search::next_waiting;
 use table_search::ready_session;
-use table_slot::answer_slot;
 use table_sound::is_sound;
 ghost use mathlib.Core.Path.{_≡_};
 ghost use mathlib.Core.Bool.{_&&_, true};
 ghost use Prim.Native.Nat.{_+_, _<_};
-ghost use lib.ListN.{length};
 ghost use Rattle.counts.specs.Limits.{commands, programs};
 ghost use Rattle.counts.specs.Result.{done};
-ghost use Rattle.sessions.specs.Table.{within, isWaiting, given as givenBy};
+ghost use Rattle.sessions.specs.Table.{within, isWaiting, givenFrom};
+ghost use Rattle.slot.specs.Fields.{slotOf};
 ghost use Rattle.table_layout.specs.Layout.{number, handAt};
-ghost use Rattle.table_sound.specs.Bytes.{handOf, slotOf, abs, soundBytes};
+ghost use Rattle.table_sound.specs.Bytes.{handOf, abs, soundBytes};
 ghost use Rattle.session_table.specs.Paper.{paperMade, paperPlaced, paperTakenUp, paperAnswered};
-ghost use Rattle.session_table.specs.Calls.{namesHand, verdict, only, making, madeBytes, placing, placedBytes, takingUp, takenBytes, answering, answeredBytes, collecting};
+ghost use Rattle.session_table.specs.Calls.{namesHand, verdict, only, making, madeBytes, placing, placedBytes, takingUp, takenBytes, answering, answeredBytes};
 ghost use Rattle.session_table.specs.Collect.{Collects};
 
 pub enum Made {
@@ -118,42 +117,20 @@ fn is_placeable(program: u32, count: u32) -> bool
     (1 <= program) & (program <= Table::PROGRAMS) & ((1 <= count) & (count <= Table::COMMANDS))
 }
 
-fn place_refusal(b: &[u8], program: u32, count: u32) -> u32
-    ensures { λ r. ⌜ verdict r ≡ only (placing (now (b .entry)) program count) ⌝ }
-{
-    if is_sound(b) {
-        if is_placeable(program, count) {
-            let t = get_table(b);
-            let spent = Table::TICKET_MOST <= t.last.0;
-            if has_open(b) {
-                if spent { NO_TICKET_LEFT } else { 0 }
-            } else {
-                ALL_TAKEN
-            }
-        } else {
-            OUT_OF_RANGE
-        }
-    } else {
-        UNSOUND
-    }
-}
-
-fn place_now(b: &mut [u8], program: u32, count: u32) -> Placed
-    requires { ⌜ only (placing (now b) program count) ≡ done tt ⌝ }
+// The lowest open number is taken, or none is open, or no ticket is left.
+fn place_lowest(b: &mut [u8], program: u32, count: u32) -> Placed
+    requires { ⌜ (soundBytes (now b) ≡ true) × ((within 1 program programs && within 1 count commands) ≡ true) ⌝ }
     ensures { λ r. ⌜ (paperPlaced r ≡ placing (now (b .entry)) program count) × (now (b .exit) ≡ placedBytes (now (b .entry)) program count) ⌝ }
 {
-    let Found::At(s) = lowest_open(b) else {
+    let SessionFound::At(s) = lowest_open(b) else {
         return Placed::Refused(Refusal::plain(ALL_TAKEN));
     };
     let last = get_table(b).last;
+    if Table::TICKET_MOST <= last.0 {
+        return Placed::Refused(Refusal::plain(NO_TICKET_LEFT));
+    }
     let ticket = Ticket(last.0 + 1);
-    let h = Head {
-        program,
-        count,
-        answered: 0,
-        ticket,
-    };
-    put_head(b, s, h);
+    put_head(b, s, Head::placed(program, count, ticket));
     put_last(b, ticket);
     Placed::At(s, ticket)
 }
@@ -162,27 +139,29 @@ fn place_now(b: &mut [u8], program: u32, count: u32) -> Placed
 pub fn place(b: &mut [u8], program: u32, count: u32) -> Placed
     ensures { λ r. ⌜ (paperPlaced r ≡ placing (now (b .entry)) program count) × (now (b .exit) ≡ placedBytes (now (b .entry)) program count) ⌝ }
 {
-    let no = place_refusal(b, program, count);
-    if no == 0 {
-        return place_now(b, program, count);
+    if is_sound(b) {
+        if is_placeable(program, count) {
+            return place_lowest(b, program, count);
+        }
+        return Placed::Refused(Refusal::plain(OUT_OF_RANGE));
     }
-    Placed::Refused(Refusal::plain(no))
+    Placed::Refused(Refusal::plain(UNSOUND))
 }
 
 // The session's lowest unanswered command.
 fn given(b: &[u8], s: SessionNumber) -> TakenUp
     requires { ⌜ (soundBytes (now b) ≡ true) × (isWaiting (slotOf (now b) (s .0)) ≡ true) ⌝ }
-    ensures { λ r. ⌜ paperTakenUp r ≡ givenBy (abs (now (b .entry))) (s .0) ⌝ }
+    ensures { λ r. ⌜ paperTakenUp r ≡ givenFrom (abs (now (b .entry))) (s .0) ⌝ }
 {
     let h = get_head(b, s);
     let t = h.ticket;
-    let command = CommandNumber(h.answered + 1);
+    let command = h.lowest();
     TakenUp::Given(s, t, command)
 }
 
 // The session is next in turn: its command is in hand now.
 fn take_up_at(b: &mut [u8], s: SessionNumber) -> TakenUp
-    requires { ⌜ (only (takingUp (now b)) ≡ done tt) × (number (now b) handAt ≡ 0) × (isWaiting (slotOf (now b) (s .0)) ≡ true) × (givenBy (abs (now b)) (s .0) ≡ takingUp (now b)) ⌝ }
+    requires { ⌜ (only (takingUp (now b)) ≡ done tt) × (number (now b) handAt ≡ 0) × (isWaiting (slotOf (now b) (s .0)) ≡ true) × (givenFrom (abs (now b)) (s .0) ≡ takingUp (now b)) ⌝ }
     ensures { λ r. ⌜ (paperTakenUp r ≡ takingUp (now (b .entry))) × (now (b .exit) ≡ takenBytes (now (b .entry))) ⌝ }
 {
     let r = given(b, s);
@@ -196,7 +175,7 @@ fn take_up_next(b: &mut [u8]) -> TakenUp
     requires { ⌜ (soundBytes (now b) ≡ true) × (number (now b) handAt ≡ 0) ⌝ }
     ensures { λ r. ⌜ (paperTakenUp r ≡ takingUp (now (b .entry))) × (now (b .exit) ≡ takenBytes (now (b .entry))) ⌝ }
 {
-    let Found::At(s) = next_waiting(b) else {
+    let SessionFound::At(s) = next_waiting(b) else {
         return TakenUp::Refused(Refusal::plain(NOTHING_UNANSWERED));
     };
     take_up_at(b, s)
@@ -225,8 +204,7 @@ fn names_hand(b: &[u8], ticket: Ticket, command: CommandNumber) -> bool
     if hand == 0 {
         return false;
     }
-    let h = get_head(b, SessionNumber(hand - 1));
-    (h.ticket.0 == ticket.0) & (h.answered + 1 == command.0)
+    get_head(b, SessionNumber(hand - 1)).names(ticket, command)
 }
 
 fn answer_refusal(b: &[u8], ticket: Ticket, command: CommandNumber, a: Answer) -> u32
@@ -283,38 +261,20 @@ pub fn answer(
     Answered::Refused(Refusal::plain(no))
 }
 
-fn collect_refusal(b: &[u8], program: u32, ticket: Ticket, room: usize) -> u32
-    ensures { λ r. ⌜ verdict r ≡ only (collecting (now (b .entry)) program (ticket .0) room) ⌝ }
-{
-    if is_sound(b) {
-        if (1 <= program) & (program <= Table::PROGRAMS) {
-            let Found::At(s) = ready_session(b, program, ticket) else {
-                return NOT_THE_ONE;
-            };
-            let n = get_head(b, s).count;
-            if reply_length(b, s, n) <= room {
-                0
-            } else {
-                TOO_LITTLE_ROOM
-            }
-        } else {
-            OUT_OF_RANGE
-        }
-    } else {
-        UNSOUND
-    }
-}
-
-fn collect_now(b: &mut [u8], program: u32, ticket: Ticket, out: &mut [u8]) -> Collected
-    requires { ⌜ only (collecting (now b) program (ticket .0) (length (now out))) ≡ done tt ⌝ }
+// The reply of the session that is ready is written and its number opened, or none is ready, or there is too little room.
+fn collect_ready(b: &mut [u8], program: u32, ticket: Ticket, out: &mut [u8]) -> Collected
+    requires { ⌜ (soundBytes (now b) ≡ true) × (within 1 program programs ≡ true) ⌝ }
     ensures { λ r. ⌜ Collects (now (b .entry)) program (ticket .0) (now (out .entry)) r (now (b .exit)) (now (out .exit)) ⌝ }
 {
-    let Found::At(s) = ready_session(b, program, ticket) else {
+    let SessionFound::At(s) = ready_session(b, program, ticket) else {
         return Collected::Refused(Refusal::plain(NOT_THE_ONE));
     };
     let n = get_head(b, s).count;
+    if out.len() < reply_length(b, s, n) {
+        return Collected::Refused(Refusal::plain(TOO_LITTLE_ROOM));
+    }
     let written = write_reply(b, s, n, out);
-    put_program(b, s, 0);
+    open_number(b, s);
     Collected::Written(written)
 }
 
@@ -322,9 +282,11 @@ fn collect_now(b: &mut [u8], program: u32, ticket: Ticket, out: &mut [u8]) -> Co
 pub fn collect(b: &mut [u8], program: u32, ticket: Ticket, out: &mut [u8]) -> Collected
     ensures { λ r. ⌜ Collects (now (b .entry)) program (ticket .0) (now (out .entry)) r (now (b .exit)) (now (out .exit)) ⌝ }
 {
-    let no = collect_refusal(b, program, ticket, out.len());
-    if no == 0 {
-        return collect_now(b, program, ticket, out);
+    if is_sound(b) {
+        if (1 <= program) & (program <= Table::PROGRAMS) {
+            return collect_ready(b, program, ticket, out);
+        }
+        return Collected::Refused(Refusal::plain(OUT_OF_RANGE));
     }
-    Collected::Refused(Refusal::plain(no))
+    Collected::Refused(Refusal::plain(UNSOUND))
 }

@@ -1,6 +1,7 @@
 -- What the calls answer at any moment of a history, by the table that agrees with it.
 use Prim.Native.Nat.{ℕ, _+_, _-_, _≤_, _<_}
 use mathlib.Core.Path.{_≡_, refl, _∙_, ap, sym}
+use mathlib.Core.Bool.{false≢true}
 use mathlib.Core.Logic.{_⊎_, inl, inr, ⊎-elim}
 use mathlib.Core.List.{List, [], _∷_, _++_}
 use native.Mathlib.Nat.{eq-zero-or-pos}
@@ -18,7 +19,7 @@ use Rattle.sessions.specs.Table.{State, names, answerHand, answer, numbe
 use Rattle.sessions.proofs.Agrees.{Agrees}
 use Rattle.sessions.proofs.Did.{stepTable}
 use Rattle.sessions.proofs.Laws.{head-same, nil≢cons, nil≢mid, snoc-alone}
-use Rattle.sessions.proofs.Parts.{Session}
+use Rattle.sessions.proofs.Parts.{SessionSound}
 use Rattle.sessions.proofs.SoundKept.{is-session, tickets-below}
 use Rattle.sessions.proofs.Standing.{Nowhere, New, new, held, gone}
 use Rattle.sessions.proofs.Owing.{length-numbered, collect-owed}
@@ -27,7 +28,7 @@ use Rattle.sessions.proofs.Told.{told-by}
 module _ (σ : State) (h : List Event) (A : Agrees σ h) where
   -- a ticket that was placed and not collected is held where it was placed
   record Holds (t s p n : ℕ) : Type 0 where
-    session : Session (σ .max) (σ .last) s (σ .slot s)
+    session : SessionSound (σ .max) (σ .last) s (σ .slot s)
     ticket : σ .slot s .ticket ≡ t
     program : σ .slot s .program ≡ p
     count : σ .slot s .count ≡ n
@@ -99,7 +100,7 @@ module _ (σ : State) (h : List Event) (A : Agrees σ h) where
 
     pub not-again-number : (t s p n q m u : ℕ) → placings t h ≡ (s, p, n) ∷ [] → collections t h ≡ []
         → stepTable elsewhere σ (toPlace q m) .0 ≡ placed q m (done (s, u)) → ⊥
-    not-again-number t s p n q m u e f g = omega (arith, holds t s p n e f .session .program-low, told-by elsewhere σ (toPlace q m) g .0 .free)
+    not-again-number t s p n q m u e f g = false≢true (sym (told-by elsewhere σ (toPlace q m) g .0 .free) ∙ holds t s p n e f .session .is-taken)
 
     -- a ticket that was given, stands nowhere and is owed nothing
     pub nowhere-refuses : (t : ℕ) → t ≤ σ .last → Nowhere (σ .slot) t

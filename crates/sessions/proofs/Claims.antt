@@ -15,7 +15,7 @@ use Rattle.sessions.specs.History.{Call, toPlace, toCollect, Event, plac
 use Rattle.sessions.specs.Owed.{ifRoom, owed, Yours}
 use Rattle.sessions.specs.Runs.{reached, historyOf, neverAnew, Refuses}
 use Rattle.sessions.specs.Table.{State, numbered, records}
-use Rattle.sessions.specs.Sound.{isReal}
+use Rattle.sessions.specs.Sound.{inRangeAndReal}
 use Rattle.sessions.specs.declared.Answer.{Answer}
 use Rattle.sessions.proofs.Agrees.{Agrees, agrees, agreed}
 use Rattle.sessions.proofs.Answers.{there, not-again-number, given-new, given-once, collected-gone, closed-or-waits}
@@ -72,7 +72,7 @@ module _ (elsewhere : List ℕ → ℕ → Result (Unit {0})) (start : State) (b
 
     -- An answer that was accepted is real, and to a command that there may be.
     pub accepted-in-range : (t c : ℕ) (a : Answer) (r : Unit {0}) → h ≡ later ++ (answered t c a (done r) ∷ earlier)
-        → (1 ≤ c) × (c ≤ commands) × (isReal a ≡ true)
+        → (1 ≤ c) × (c ≤ commands) × (inRangeAndReal a ≡ true)
     accepted-in-range t c a r e =
         let (m, w) = then (answered t c a (done r)) e in
         let ok = m .held .sound in

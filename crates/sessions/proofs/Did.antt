@@ -3,7 +3,7 @@ use Prim.Native.Nat.{ℕ, _+_, _≤_, _<_}
 use mathlib.Core.Path.{_≡_, refl}
 use mathlib.Core.Bool.{true, false, cond, _&&_}
 use mathlib.Core.List.{List}
-use borrow.Author.Tests.{eqb-true, leb-true, ltb-true, ltb-false}
+use borrow.Author.Tests.{not-true, leb-true, ltb-true, ltb-false}
 use lib.Dec.{leb, ltb}
 use lib.ListN.{length}
 use Rattle.counts.specs.Limits.{commands, programs, sessions, ticketMost}
@@ -14,9 +14,9 @@ use Rattle.sessions.specs.Runs.{makesAnew, wasMade, refusedWith}
 use Rattle.sessions.specs.declared.Answer.{Answer}
 use Rattle.record.specs.Record.{isOutcome}
 use Rattle.sessions.specs.Records.{isDated}
-use Rattle.sessions.specs.Sound.{isReal}
+use Rattle.sessions.specs.Sound.{inRangeAndReal}
 use Rattle.counts.specs.Result.{Result, refused, done}
-use Rattle.sessions.specs.Table.{State, fresh, within, isOpen, afterPlace, placeIn, place, isWaiting, lowest, turn, given, afterTakeUp, takeNext, takeHand, takeUp, names, afterAnswer, answerHand, answer, reply, afterCollect, collectFrom, collect, isReady}
+use Rattle.sessions.specs.Table.{State, fresh, within, isOpen, afterPlace, placeIn, place, isWaiting, lowest, turn, givenFrom, afterTakeUp, takeNext, takeHand, takeUp, names, afterAnswer, answerHand, answer, reply, afterCollect, collectFrom, collect, isReady}
 use Rattle.sessions.proofs.Laws.{Search, miss, hit, search-find, halves, if-cond, in-range, are-named, is-ready}
 
 unfoldable pub make : State → ℕ → Result (Unit {0}) × State
@@ -36,13 +36,13 @@ pub data Idle (σ : State) : Event → Type 0 where
   not-made : (m : Lent) (max : ℕ) (r : Result (Unit {0})) → wasMade (made m max r) ≡ false → Idle σ (made m max r)
   no-place : (p n k i : ℕ) → Idle σ (placed p n (refused k i))
   no-take-up : (k i : ℕ) → Idle σ (tookUp (refused k i))
-  again : (s : ℕ) → σ .hand ≡ at s → Idle σ (tookUp (given σ s))
+  again : (s : ℕ) → σ .hand ≡ at s → Idle σ (tookUp (givenFrom σ s))
   no-answer : (t c : ℕ) (a : Answer) (k i : ℕ) → Idle σ (answered t c a (refused k i))
   no-collect : (p t : ℕ) (out : List ℕ) (k i : ℕ) → Idle σ (collected p t out (refused k i) out)
 
 -- what is known where a call is accepted
 pub record Places (σ : State) (s p n : ℕ) : Type 0 where
-  pub free : σ .slot s .program ≡ 0
+  pub free : σ .slot s .taken ≡ false
   pub below : s < σ .max
   pub program-range : (1 ≤ p) × (p ≤ programs)
   pub count-range : (1 ≤ n) × (n ≤ commands)
@@ -58,7 +58,7 @@ pub record Answers (σ : State) (s t c : ℕ) (a : Answer) : Type 0 where
   pub in-hand : σ .hand ≡ at s
   pub ticket : σ .slot s .ticket ≡ t
   pub command : lowest (σ .slot s) ≡ c
-  pub real : isReal a ≡ true
+  pub real : inRangeAndReal a ≡ true
 
 pub record Collects (σ : State) (s p t : ℕ) (out : List ℕ) : Type 0 where
   pub program-low : 1 ≤ p
@@ -71,7 +71,7 @@ pub data Did (σ : State) : Event → State → Type 0 where
   nothing : {e : Event} → Idle σ e → refusedWith unsound e ≡ false → Did σ e σ
   makes : {max : ℕ} → (1 ≤ max) × (max ≤ sessions) → Did σ (made itself max (done tt)) (fresh max)
   places : {s p n : ℕ} → Places σ s p n → Did σ (placed p n (done (s, σ .last + 1))) (afterPlace σ s p n)
-  takes : {i : ℕ} → Takes σ i → Did σ (tookUp (given σ (turn σ i))) (afterTakeUp σ (turn σ i))
+  takes : {i : ℕ} → Takes σ i → Did σ (tookUp (givenFrom σ (turn σ i))) (afterTakeUp σ (turn σ i))
   answers : {s t c : ℕ} {a : Answer} → Answers σ s t c a → Did σ (answered t c a (done tt)) (afterAnswer σ s a)
   collects : {s p t : ℕ} {out : List ℕ} → Collects σ s p t out
       → Did σ (collected p t out (done (length (reply (σ .slot s)))) (written out (reply (σ .slot s)))) (afterCollect σ s)
@@ -89,7 +89,7 @@ module _ (σ : State) where
         (λ q.
         let b = halves (within 1 p programs) (within 1 n commands) r in
         let k = in-range 1 p programs (b .0) in
-        places (record { free = eqb-true _ _ e; below = l; program-range = k; count-range = in-range 1 n commands (b .1); room = ltb-true _ _ q }))
+        places (record { free = not-true _ e; below = l; program-range = k; count-range = in-range 1 n commands (b .1); room = ltb-true _ _ q }))
         (λ q. nothing (no-place p n noTicketLeft 0) refl)
 
     did-place : DidPlace (place σ p n)
@@ -117,7 +117,7 @@ module _ (σ : State) where
     DidAnswer r = Did σ (answered t c a (r .0)) (r .1)
 
     answer-hand : (f : Found) → σ .hand ≡ f → DidAnswer (answerHand σ t c a f)
-    unfolding answerHand isReal
+    unfolding answerHand inRangeAndReal
     answer-hand none e = nothing (no-answer t c a notTheOne 0) refl
     answer-hand (at s) e =
         if-cond DidAnswer (names (σ .slot s) t c)

@@ -1,4 +1,4 @@
--- The laws of find, all, put and numbered, and what the tests of the calls say. Assumes nothing.
+-- The laws of find, all, replaced and numbered, and what the tests of the calls say.
 use Prim.Native.Nat.{ℕ, zero, suc, _+_, _-_, _≤_, _<_}
 use mathlib.Core.Path.{_≡_, refl, ap, sym}
 use mathlib.Core.Bool.{Bool, true, false, cond, _&&_, _||_, not, false≢true}
@@ -9,10 +9,10 @@ use native.Mathlib.Omega.{arith}
 use borrow.Author.Tests.{eq-eqb, ne-eqb, eqb-true, eqb-false, leb-true, not-true}
 use lib.Dec.{eqb, leb}
 use lib.ListN.{length}
-use Rattle.sessions.specs.Find.{Found, none, at, orElse, find, all, put}
+use Rattle.sessions.specs.Find.{Found, none, at, orElse, find, all, replaced}
 use Rattle.sessions.specs.declared.Answer.{Answer}
 use Rattle.counts.specs.Result.{refused, done}
-use Rattle.sessions.specs.Table.{Slot, within, lowest, names, isReady, numbered, records}
+use Rattle.sessions.specs.Table.{Session, within, lowest, names, isClosed, isReady, numbered, records}
 
 -- what a search found
 pub data Search (n : ℕ) (p : ℕ → Bool) : Found → Type 0 where
@@ -50,17 +50,17 @@ either a b =
     ⊎-elim (λ e. ⊎-elim (λ f. inl (omega arith)) (λ l. inr (λ z. omega arith)) (eq-zero-or-pos (b - a))) (λ l. inr (λ z. omega arith)) (eq-zero-or-pos (a - b))
 
 module _ {A : Type 0} (f : ℕ → A) (s : ℕ) (x : A) where
-  pub put-same : put f s x s ≡ x
-  unfolding put
-  put-same = rw (eq-eqb s s refl)
+  pub replaced-same : replaced f s x s ≡ x
+  unfolding replaced
+  replaced-same = rw (eq-eqb s s refl)
 
-  pub put-other : {i : ℕ} → (i ≡ s → ⊥) → put f s x i ≡ f i
-  unfolding put
-  put-other {i} n = rw (ne-eqb i s n)
+  pub replaced-other : {i : ℕ} → (i ≡ s → ⊥) → replaced f s x i ≡ f i
+  unfolding replaced
+  replaced-other {i} n = rw (ne-eqb i s n)
 
   -- whatever holds of the new one and of each other holds of all
-  pub put-all : (P : ℕ → A → Type 0) → P s x → ((i : ℕ) → (i ≡ s → ⊥) → P i (f i)) → (i : ℕ) → P i (put f s x i)
-  put-all P h g i = ⊎-elim (λ (e : i ≡ s). rw e (rw put-same h)) (λ (n : i ≡ s → ⊥). rw (put-other n) (g i n)) (either i s)
+  pub replaced-all : (P : ℕ → A → Type 0) → P s x → ((i : ℕ) → (i ≡ s → ⊥) → P i (f i)) → (i : ℕ) → P i (replaced f s x i)
+  replaced-all P h g i = ⊎-elim (λ (e : i ≡ s). rw e (rw replaced-same h)) (λ (n : i ≡ s → ⊥). rw (replaced-other n) (g i n)) (either i s)
 
 -- the two halves of a test that holds
 pub halves : (a b : Bool) → (a && b) ≡ true → (a ≡ true) × (b ≡ true)
@@ -91,16 +91,16 @@ all-make p (suc n) h = rw (all-make p n (λ i l. h i (omega arith)), h n (omega 
 pub in-range : (a n b : ℕ) → within a n b ≡ true → (a ≤ n) × (n ≤ b)
 in-range a n b e = let h = halves (leb a n) (leb n b) e in (leb-true a n (h .0), leb-true n b (h .1))
 
-pub are-named : (x : Slot) (t c : ℕ) → names x t c ≡ true → (x .ticket ≡ t) × (lowest x ≡ c)
+pub are-named : (x : Session) (t c : ℕ) → names x t c ≡ true → (x .ticket ≡ t) × (lowest x ≡ c)
 unfolding names
 are-named x t c e = let h = halves (eqb (x .ticket) t) (eqb (lowest x) c) e in (eqb-true _ _ (h .0), eqb-true _ _ (h .1))
 
-pub is-ready : (p t : ℕ) (x : Slot) → isReady p t x ≡ true → (x .program ≡ p) × (x .ticket ≡ t) × (length (x .answers) ≡ x .count)
-unfolding isReady
+pub is-ready : (p t : ℕ) (x : Session) → isReady p t x ≡ true → (x .program ≡ p) × (x .ticket ≡ t) × (length (x .answers) ≡ x .count)
+unfolding isReady isClosed
 is-ready p t x e =
-    let h = halves (eqb (x .program) p && eqb (x .ticket) t) (eqb (length (x .answers)) (x .count)) e in
+    let h = halves (eqb (x .program) p && eqb (x .ticket) t) (isClosed x) e in
     let k = halves (eqb (x .program) p) (eqb (x .ticket) t) (h .0) in
-    (eqb-true _ _ (k .0), eqb-true _ _ (k .1), eqb-true _ _ (h .1))
+    (eqb-true _ _ (k .0), eqb-true _ _ (k .1), eqb-true _ _ (halves (x .taken) (eqb (length (x .answers)) (x .count)) (h .1) .1))
 
 pub refused≢done : {A : Type 0} {k i : ℕ} {x : A} → refused k i ≡ done x → ⊥
 refused≢done e = let z : _≡_ {A = ℕ} 0 1 = cc in omega arith

@@ -9,7 +9,7 @@ use native.Mathlib.Numerals.{add-one}
 use native.Mathlib.Omega.{arith}
 use lib.ListN.{length, length-append}
 use Rattle.sessions.specs.Find.{Found, none, at, find, all, first}
-use Rattle.sessions.specs.Sound.{isReal, allReal}
+use Rattle.sessions.specs.Sound.{inRangeAndReal, allReal}
 use Rattle.sessions.specs.declared.Answer.{Answer}
 use Rattle.sessions.proofs.Laws.{Search, hit, search-find}
 
@@ -31,6 +31,11 @@ all-fails p (suc n) {i} h e =
 
 pub all-end : (p : ℕ → Bool) {i n : ℕ} → all i p ≡ true → i ≡ n → all n p ≡ true
 all-end p h e = rw (← e) h
+
+pub all-same : (p q : ℕ → Bool) (n : ℕ) → ((i : ℕ) → i < n → p i ≡ q i) → all n p ≡ all n q
+unfolding all
+all-same p q zero h = refl
+all-same p q (suc n) h = rw (all-same p q n (λ i l. h i (omega arith)), h n (omega arith))
 
 -- ---- the lowest number below n
 
@@ -75,9 +80,9 @@ first-same (suc n) f g h = rw (first-same n f g (λ i l. h i (omega arith)), h n
 pub all-real-append : (l m : List Answer) → allReal (l ++ m) ≡ (allReal l && allReal m)
 unfolding allReal
 all-real-append [] m = refl
-all-real-append (a ∷ l) m = ap (λ r. isReal a && r) (all-real-append l m) ∙ sym (and-assoc (isReal a) (allReal l) (allReal m))
+all-real-append (a ∷ l) m = ap (λ r. inRangeAndReal a && r) (all-real-append l m) ∙ sym (and-assoc (inRangeAndReal a) (allReal l) (allReal m))
 
-pub all-real : (n : ℕ) (f : ℕ → Answer) → allReal (first n f) ≡ all n (λ i. isReal (f i))
+pub all-real : (n : ℕ) (f : ℕ → Answer) → allReal (first n f) ≡ all n (λ i. inRangeAndReal (f i))
 unfolding first all allReal
 all-real zero f = refl
 all-real (suc n) f = all-real-append (first n f) (f n ∷ []) ∙ rw (all-real n f, and-true)

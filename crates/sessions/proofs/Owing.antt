@@ -14,7 +14,7 @@ use Rattle.sessions.specs.History.{Event, placings, accepted, collection
 use Rattle.sessions.specs.Owed.{owedOf, owed, Yours}
 use Rattle.sessions.specs.declared.Answer.{Answer}
 use Rattle.counts.specs.Result.{refused, done}
-use Rattle.sessions.specs.Table.{State, within, isReady, reply, numbered, collectFrom, collect}
+use Rattle.sessions.specs.Table.{State, within, isClosed, isReady, reply, numbered, collectFrom, collect}
 use Rattle.sessions.proofs.Agrees.{Agrees}
 use Rattle.sessions.proofs.Laws.{Search, miss, hit, search-find, in-range, is-ready}
 use Rattle.sessions.proofs.SoundKept.{is-session}
@@ -42,11 +42,11 @@ module _ (σ : State) (h : List Event) (A : Agrees σ h) where
     -- nobody is ready: nothing is owed
     none-owed : ((s : ℕ) → s < σ .max → isReady p t (σ .slot s) ≡ false) → {ps : List (ℕ × ℕ × ℕ)} {qs : List (ℕ × Answer)} {rs : List ℕ}
         → Standing (σ .last) (σ .slot) t ps qs rs → refused notTheOne 0 ≡ owedOf p room ps qs rs
-    unfolding owedOf isReady
+    unfolding owedOf isReady isClosed
     none-owed m (new d w) = rw (w .no-placing)
     none-owed m (held s y q w) =
         let x = is-session σ (A .sound) (λ x. x .ticket) refl s (rw (q, w .its-ticket) (w .ticket-low)) in
-        let k = rw (q, eq-eqb (y .ticket) t (w .its-ticket), and-true) at (m s (x .number)) in
+        let k = rw (q, eq-eqb (y .ticket) t (w .its-ticket), and-true, ap (λ z. z .taken) (sym q) ∙ x .is-taken) at (m s (x .number)) in
         rw (w .one-placing, w .its-answers, w .no-reply, length-numbered, k)
     none-owed m (gone s y l d w) = rw (w .one-placing, w .one-reply)
 

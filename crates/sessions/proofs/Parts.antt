@@ -1,22 +1,23 @@
--- A sound table taken apart, and put together again. Assumes nothing.
+-- A sound table taken apart, and put together again.
 use Prim.Native.Nat.{ℕ, _-_, _≤_, _<_}
 use mathlib.Core.Path.{_≡_, refl, sym, _∙_, ap}
-use mathlib.Core.Bool.{Bool, true, _&&_, or-true}
+use mathlib.Core.Bool.{Bool, true, false, _&&_, or-true, not, false≢true}
 use mathlib.Core.Logic.{⊎-elim}
 use native.Mathlib.Nat.{eq-zero-or-pos}
 use native.Mathlib.Omega.{arith}
-use borrow.Author.Tests.{eqb-true, ne-eqb, leb-true, le-leb, ltb-true, lt-ltb}
+use borrow.Author.Tests.{ne-eqb, leb-true, le-leb, ltb-true, lt-ltb}
 use lib.Dec.{leb, ltb}
 use lib.ListN.{length}
 use Rattle.counts.specs.Limits.{commands, programs, sessions, ticketMost}
 use Rattle.sessions.specs.Find.{Found, none, at, all}
 use Rattle.sessions.specs.Sound.{maxInRange, markBelow, inRange, headSound, differs, isNew, allReal, slotSound, handSound, sound}
-use Rattle.sessions.specs.Table.{Slot, openSlot, State, within, isOpen, isWaiting}
+use Rattle.sessions.specs.Table.{Session, noSession, State, within, isOpen, isWaiting}
 use Rattle.sessions.proofs.Laws.{halves, in-range, or-cases, differ-true, all-at, all-make}
 
 -- what a sound table says of a session
-pub record Session (max last s : ℕ) (x : Slot) : Type 0 where
+pub record SessionSound (max last s : ℕ) (x : Session) : Type 0 where
   pub number : s < max
+  pub is-taken : x .taken ≡ true
   pub program-low : 1 ≤ x .program
   pub program-high : x .program ≤ programs
   pub count-low : 1 ≤ x .count
@@ -27,9 +28,9 @@ pub record Session (max last s : ℕ) (x : Slot) : Type 0 where
   pub answers-few : length (x .answers) ≤ x .count
   pub answers-real : allReal (x .answers) ≡ true
 
-pub data SlotSound (max last s : ℕ) (x : Slot) : Type 0 where
-  open-slot : x ≡ openSlot → SlotSound max last s x
-  session : Session max last s x → SlotSound max last s x
+pub data SlotSound (max last s : ℕ) (x : Session) : Type 0 where
+  open-slot : x ≡ noSession → SlotSound max last s x
+  session : SessionSound max last s x → SlotSound max last s x
 
 pub record Sound (σ : State) : Type 0 where
   pub max-low : 1 ≤ σ .max
@@ -41,25 +42,29 @@ pub record Sound (σ : State) : Type 0 where
 
 -- nothing stands in an open slot, and no slot stands past the last
 pub record Clean (σ : State) : Type 0 where
-  pub empty : (s : ℕ) → σ .slot s .program ≡ 0 → σ .slot s ≡ openSlot
-  pub beyond : (s : ℕ) → sessions ≤ s → σ .slot s ≡ openSlot
+  pub empty : (s : ℕ) → σ .slot s .taken ≡ false → σ .slot s ≡ noSession
+  pub beyond : (s : ℕ) → sessions ≤ s → σ .slot s ≡ noSession
 
-module _ (σ : State) (s : ℕ) (x : Slot) where
-  -- the head's test alone bounds the answers
-  pub few-of-head : headSound σ s x ≡ true → length (x .answers) ≤ commands
+module _ (max last s : ℕ) (x : Session) where
+  -- the head's test alone bounds the ticket and the answers
+  pub of-head : headSound max last s x ≡ true → (1 ≤ x .ticket) × (length (x .answers) ≤ commands)
   unfolding headSound inRange
-  few-of-head e =
-      let e1 = halves (ltb s (σ .max) && inRange x && leb (x .ticket) (σ .last)) (leb (length (x .answers)) (x .count)) e in
-      let e2 = halves (ltb s (σ .max)) (inRange x) (halves (ltb s (σ .max) && inRange x) (leb (x .ticket) (σ .last)) (e1 .0) .0) in
+  of-head e =
+      let e1 = halves (ltb s max && inRange x && leb (x .ticket) last) (leb (length (x .answers)) (x .count)) e in
+      let e2 = halves (ltb s max) (inRange x) (halves (ltb s max && inRange x) (leb (x .ticket) last) (e1 .0) .0) in
       let e3 = halves (within 1 (x .program) programs && within 1 (x .count) commands) (within 1 (x .ticket) ticketMost) (e2 .1) in
       let c = in-range 1 (x .count) commands (halves (within 1 (x .program) programs) (within 1 (x .count) commands) (e3 .0) .1) in
-      omega (arith, leb-true (length (x .answers)) (x .count) (e1 .1))
+      (in-range 1 (x .ticket) ticketMost (e3 .1) .0, omega (arith, leb-true (length (x .answers)) (x .count) (e1 .1)))
 
-  from-tests : (headSound σ s x && isNew σ s x && allReal (x .answers)) ≡ true → (x .program ≡ 0 → ⊥) → Session (σ .max) (σ .last) s x
+module _ (σ : State) (s : ℕ) (x : Session) where
+  abbrev head-test : Bool
+  head-test = headSound (σ .max) (σ .last) s x
+
+  from-tests : (head-test && isNew σ s x && allReal (x .answers)) ≡ true → x .taken ≡ true → SessionSound (σ .max) (σ .last) s x
   unfolding headSound inRange
   from-tests e n =
-      let e1 = halves (headSound σ s x && isNew σ s x) (allReal (x .answers)) e in
-      let e2 = halves (headSound σ s x) (isNew σ s x) (e1 .0) in
+      let e1 = halves (head-test && isNew σ s x) (allReal (x .answers)) e in
+      let e2 = halves head-test (isNew σ s x) (e1 .0) in
       let e3 = halves (ltb s (σ .max) && inRange x && leb (x .ticket) (σ .last)) (leb (length (x .answers)) (x .count)) (e2 .0) in
       let e4 = halves (ltb s (σ .max) && inRange x) (leb (x .ticket) (σ .last)) (e3 .0) in
       let e5 = halves (ltb s (σ .max)) (inRange x) (e4 .0) in
@@ -70,6 +75,7 @@ module _ (σ : State) (s : ℕ) (x : Slot) where
       let t = in-range 1 (x .ticket) ticketMost (e6 .1) in
       record {
         number = ltb-true s (σ .max) (e5 .0);
+        is-taken = n;
         program-low = p .0;
         program-high = p .1;
         count-low = c .0;
@@ -81,7 +87,7 @@ module _ (σ : State) (s : ℕ) (x : Slot) where
         answers-real = e1 .1;
       }
 
-  to-tests : Session (σ .max) (σ .last) s x → isNew σ s x ≡ true → (headSound σ s x && isNew σ s x && allReal (x .answers)) ≡ true
+  to-tests : SessionSound (σ .max) (σ .last) s x → isNew σ s x ≡ true → (head-test && isNew σ s x && allReal (x .answers)) ≡ true
   unfolding headSound inRange
   to-tests w e =
       rw (
@@ -112,29 +118,35 @@ module _ (σ : State) (clean : Clean σ) (e : sound σ ≡ true) where
   head-part : (maxInRange σ ≡ true) × (markBelow σ ≡ true)
   head-part = halves (maxInRange σ) (markBelow σ) (slots-part .0)
 
-  -- the tests of a session, for whoever has a program
-  tested : (s : ℕ) → (σ .slot s .program ≡ 0 → ⊥) → (headSound σ s (σ .slot s) && isNew σ s (σ .slot s) && allReal (σ .slot s .answers)) ≡ true
+  -- the tests of a session, for whoever is taken
+  tested : (s : ℕ) → σ .slot s .taken ≡ true → (head-test σ s (σ .slot s) && isNew σ s (σ .slot s) && allReal (σ .slot s .answers)) ≡ true
   unfolding slotSound isOpen
   tested s n =
-      let l : s < sessions = ⊎-elim (λ z. absurd (n (ap (λ x. x .program) (clean .beyond s (omega arith))))) (λ z. omega arith) (eq-zero-or-pos (sessions - s)) in
-      ⊎-elim (λ z. absurd (n (eqb-true _ _ z))) (λ z. z) (or-cases _ _ (all-at (λ i. slotSound σ i (σ .slot i)) sessions (slots-part .1) l))
+      let l : s < sessions =
+      ⊎-elim (λ z. absurd (false≢true (sym (ap (λ x. x .taken) (clean .beyond s (omega arith))) ∙ n))) (λ z. omega arith) (eq-zero-or-pos (sessions - s)) in
+      ⊎-elim (λ z. absurd (false≢true (sym (ap not n) ∙ z))) (λ z. z) (or-cases _ _ (all-at (λ i. slotSound σ i (σ .slot i)) sessions (slots-part .1) l))
 
   slot-part : (s : ℕ) → SlotSound (σ .max) (σ .last) s (σ .slot s)
-  slot-part s =
-      ⊎-elim
-      (λ z. open-slot (clean .empty s z))
-      (λ z. session (from-tests σ s (σ .slot s) (tested s (λ q. omega arith)) (λ q. omega arith)))
-      (eq-zero-or-pos (σ .slot s .program))
+  slot-part s = go (σ .slot s .taken) refl
+    where
+      go : (t : Bool) → σ .slot s .taken ≡ t → SlotSound (σ .max) (σ .last) s (σ .slot s)
+      go true e = session (from-tests σ s (σ .slot s) (tested s e) e)
+      go false e = open-slot (clean .empty s e)
 
   -- a ticket that is not 0 is a session's
-  held : (s : ℕ) → 1 ≤ σ .slot s .ticket → σ .slot s .program ≡ 0 → ⊥
-  held s l z = omega (arith, ap (λ x. x .ticket) (clean .empty s z))
+  held : (s : ℕ) → 1 ≤ σ .slot s .ticket → σ .slot s .taken ≡ true
+  held s l = go (slot-part s)
+    where
+      go : SlotSound (σ .max) (σ .last) s (σ .slot s) → σ .slot s .taken ≡ true
+      go (open-slot e) = absurd (omega (arith, ap (λ x. x .ticket) e))
+      go (session w) = w .is-taken
 
   apart : (s r : ℕ) → r < s → 1 ≤ σ .slot s .ticket → σ .slot r .ticket ≡ σ .slot s .ticket → ⊥
   unfolding isNew differs isOpen
   apart s r l k q =
-      let n = halves (headSound σ s (σ .slot s)) (isNew σ s (σ .slot s)) (halves (headSound σ s (σ .slot s) && isNew σ s (σ .slot s)) (allReal (σ .slot s .answers)) (tested s (held s k)) .0) .1 in
-      ⊎-elim (λ z. held r (omega arith) (eqb-true _ _ z)) (λ z. differ-true _ _ z q) (or-cases _ _ (all-at (λ i. differs (σ .slot i) (σ .slot s .ticket)) s n l))
+      let h = head-test σ s (σ .slot s) in
+      let n = halves h (isNew σ s (σ .slot s)) (halves (h && isNew σ s (σ .slot s)) (allReal (σ .slot s .answers)) (tested s (held s k)) .0) .1 in
+      differ-true _ _ (rw (held r (omega arith)) at (all-at (λ i. differs (σ .slot i) (σ .slot s .ticket)) s n l)) q
 
   pub sound-parts : Sound σ
   unfolding maxInRange markBelow handSound isWaiting
@@ -161,7 +173,7 @@ module _ (σ : State) (w : Sound σ) where
 
   slot-tests : (s : ℕ) → SlotSound (σ .max) (σ .last) s (σ .slot s) → slotSound σ s (σ .slot s) ≡ true
   unfolding slotSound isOpen
-  slot-tests s (open-slot e) = rw (ap (λ x. x .program) e)
+  slot-tests s (open-slot e) = rw (ap (λ x. x .taken) e)
   slot-tests s (session x) = rw (to-tests σ s (σ .slot s) x (new-ticket s (x .ticket-low))) (or-true (isOpen (σ .slot s)))
 
   hand-test : (f : Found) → σ .hand ≡ f → handSound σ f ≡ true

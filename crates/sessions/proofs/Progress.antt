@@ -19,15 +19,15 @@ use Rattle.sessions.proofs.Told.{told-by}
 use Rattle.sessions.specs.Find.{Found, none, at}
 use Rattle.sessions.specs.History.{toTakeUp, toAnswer, Event, tookUp, answered, placings, accepted}
 use Rattle.sessions.specs.Records.{isDated}
-use Rattle.sessions.specs.Sound.{isReal}
+use Rattle.sessions.specs.Sound.{inRangeAndReal}
 use Rattle.sessions.specs.Table.{State, isWaiting, turn, takeNext, takeHand, takeUp, names, answerHand, answer}
 use Rattle.sessions.specs.declared.Answer.{Answer}
 
 -- what was taken up may be answered
 pub taken-is-answered : (elsewhere : List ℕ → ℕ → Result (Unit {0})) (σ : State) (s t c : ℕ) (a : Answer)
-    → stepTable elsewhere σ toTakeUp .0 ≡ tookUp (done (s, t, c)) → isReal a ≡ true
+    → stepTable elsewhere σ toTakeUp .0 ≡ tookUp (done (s, t, c)) → inRangeAndReal a ≡ true
     → stepTable elsewhere (stepTable elsewhere σ toTakeUp .1) (toAnswer t c a) .0 ≡ answered t c a (done tt)
-unfolding stepTable answer answerHand names isReal
+unfolding stepTable answer answerHand names inRangeAndReal
 taken-is-answered elsewhere σ s t c a e real =
     let w = told-by elsewhere σ toTakeUp e in
     let k = halves (isDated a) (isOutcome (a .outcome)) real in

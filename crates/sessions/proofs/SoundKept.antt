@@ -1,20 +1,21 @@
 -- Each accepted call leaves a sound table sound.
 use Prim.Native.Nat.{ℕ, _+_, _≤_, _<_}
-use mathlib.Core.Path.{_≡_, refl, ap, sym}
+use mathlib.Core.Path.{_≡_, refl, _∙_, ap, sym}
+use mathlib.Core.Bool.{false, false≢true}
 use mathlib.Core.Logic.{⊎-elim}
 use mathlib.Core.List.{List, [], _∷_}
 use native.Mathlib.Nat.{eq-zero-or-pos}
 use native.Mathlib.Omega.{arith}
 use lib.ListN.{length, length-append}
-use Rattle.sessions.specs.Find.{Found, at, put}
+use Rattle.sessions.specs.Find.{Found, at, replaced}
 use Rattle.sessions.specs.History.{Event}
 use Rattle.sessions.specs.declared.Answer.{Answer}
 use Rattle.sessions.specs.Sound.{allReal}
-use Rattle.sessions.specs.Table.{Slot, openSlot, State, fresh, newSlot, withAnswer, turn, afterPlace, afterTakeUp, afterAnswer, afterCollect}
+use Rattle.sessions.specs.Table.{Session, noSession, State, fresh, newSession, withAnswer, turn, afterPlace, afterTakeUp, afterAnswer, afterCollect}
 use Rattle.sessions.proofs.Did.{Did, nothing, makes, places, takes, answers, collects, Places, Answers, Collects}
-use Rattle.sessions.proofs.Laws.{put-all}
+use Rattle.sessions.proofs.Laws.{replaced-all}
 use Rattle.sessions.proofs.Loops.{all-real-append}
-use Rattle.sessions.proofs.Parts.{Session, SlotSound, open-slot, session, Sound}
+use Rattle.sessions.proofs.Parts.{SessionSound, SlotSound, open-slot, session, Sound}
 use Rattle.counts.specs.Limits.{sessions}
 
 pub fresh-sound : (max : ℕ) → 1 ≤ max → max ≤ sessions → Sound (fresh max)
@@ -29,11 +30,12 @@ fresh-sound max l h =
       in-hand = λ s e. let z : _≡_ {A = ℕ} 0 1 = cc in absurd (omega arith);
     }
 
-later : {max last s : ℕ} {x : Slot} (last′ : ℕ) → last ≤ last′ → SlotSound max last s x → SlotSound max last′ s x
+later : {max last s : ℕ} {x : Session} (last′ : ℕ) → last ≤ last′ → SlotSound max last s x → SlotSound max last′ s x
 later last′ l (open-slot e) = open-slot e
 later last′ l (session w) =
     session (record {
       number = w .number;
+      is-taken = w .is-taken;
       program-low = w .program-low;
       program-high = w .program-high;
       count-low = w .count-low;
@@ -45,43 +47,43 @@ later last′ l (session w) =
       answers-real = w .answers-real;
     })
 
-abbrev Distinct : (ℕ → Slot) → Type 0
+abbrev Distinct : (ℕ → Session) → Type 0
 Distinct slot = (s s′ : ℕ) → 1 ≤ slot s .ticket → slot s .ticket ≡ slot s′ .ticket → s ≡ s′
 
-abbrev InHand : Found → (ℕ → Slot) → Type 0
+abbrev InHand : Found → (ℕ → Session) → Type 0
 InHand hand slot = (s : ℕ) → hand ≡ at s → length (slot s .answers) < slot s .count
 
-module _ (slot : ℕ → Slot) (s : ℕ) (x : Slot) where
+module _ (slot : ℕ → Session) (s : ℕ) (x : Session) where
   -- a new ticket at s, the same, or none
-  distinct-put : Distinct slot → (1 ≤ x .ticket → (i : ℕ) → (i ≡ s → ⊥) → slot i .ticket ≡ x .ticket → ⊥) → Distinct (put slot s x)
+  distinct-put : Distinct slot → (1 ≤ x .ticket → (i : ℕ) → (i ≡ s → ⊥) → slot i .ticket ≡ x .ticket → ⊥) → Distinct (replaced slot s x)
   distinct-put d f =
-      put-all slot s x (λ i y. (i′ : ℕ) → 1 ≤ y .ticket → y .ticket ≡ put slot s x i′ .ticket → i ≡ i′)
-      (put-all slot s x (λ i′ y′. 1 ≤ x .ticket → x .ticket ≡ y′ .ticket → s ≡ i′) (λ l e. refl) (λ i′ n l e. absurd (f l i′ n (sym e))))
+      replaced-all slot s x (λ i y. (i′ : ℕ) → 1 ≤ y .ticket → y .ticket ≡ replaced slot s x i′ .ticket → i ≡ i′)
+      (replaced-all slot s x (λ i′ y′. 1 ≤ x .ticket → x .ticket ≡ y′ .ticket → s ≡ i′) (λ l e. refl) (λ i′ n l e. absurd (f l i′ n (sym e))))
       (λ i n.
-      put-all slot s x (λ i′ y′. 1 ≤ slot i .ticket → slot i .ticket ≡ y′ .ticket → i ≡ i′)
+      replaced-all slot s x (λ i′ y′. 1 ≤ slot i .ticket → slot i .ticket ≡ y′ .ticket → i ≡ i′)
       (λ l e. absurd (f (omega arith) i n e))
       (λ i′ n′. d i i′))
 
   -- where no command of s was in hand
-  hand-put : (hand : Found) → (length (slot s .answers) < slot s .count → ⊥) → InHand hand slot → InHand hand (put slot s x)
+  hand-put : (hand : Found) → (length (slot s .answers) < slot s .count → ⊥) → InHand hand slot → InHand hand (replaced slot s x)
   hand-put hand f h =
-      put-all slot s x (λ i y. hand ≡ at i → length (y .answers) < y .count) (λ e. absurd (f (h s e))) (λ i n e. h i e)
+      replaced-all slot s x (λ i y. hand ≡ at i → length (y .answers) < y .count) (λ e. absurd (f (h s e))) (λ i n e. h i e)
 
 module _ (σ : State) (ok : Sound σ) where
   -- a session stands where a number is not what an open slot has there: a program, a count, a ticket
-  pub is-session : (f : Slot → ℕ) → f openSlot ≡ 0 → (s : ℕ) → 1 ≤ f (σ .slot s) → Session (σ .max) (σ .last) s (σ .slot s)
+  pub is-session : (f : Session → ℕ) → f noSession ≡ 0 → (s : ℕ) → 1 ≤ f (σ .slot s) → SessionSound (σ .max) (σ .last) s (σ .slot s)
   is-session f z s = go (ok .slots s)
     where
-      go : SlotSound (σ .max) (σ .last) s (σ .slot s) → 1 ≤ f (σ .slot s) → Session (σ .max) (σ .last) s (σ .slot s)
+      go : SlotSound (σ .max) (σ .last) s (σ .slot s) → 1 ≤ f (σ .slot s) → SessionSound (σ .max) (σ .last) s (σ .slot s)
       go (open-slot e) l = absurd (omega (arith, ap f e))
       go (session w) l = w
 
-  pub is-open : (s : ℕ) → σ .slot s .program ≡ 0 → σ .slot s ≡ openSlot
+  pub is-open : (s : ℕ) → σ .slot s .taken ≡ false → σ .slot s ≡ noSession
   is-open s = go (ok .slots s)
     where
-      go : SlotSound (σ .max) (σ .last) s (σ .slot s) → σ .slot s .program ≡ 0 → σ .slot s ≡ openSlot
+      go : SlotSound (σ .max) (σ .last) s (σ .slot s) → σ .slot s .taken ≡ false → σ .slot s ≡ noSession
       go (open-slot e) l = e
-      go (session w) l = absurd (omega (arith, w .program-low))
+      go (session w) l = absurd (false≢true (sym l ∙ w .is-taken))
 
   pub tickets-below : (s : ℕ) → σ .slot s .ticket ≤ σ .last
   tickets-below s =
@@ -90,15 +92,16 @@ module _ (σ : State) (ok : Sound σ) where
   place-sound : {s p n : ℕ} → Places σ s p n → Sound (afterPlace σ s p n)
   unfolding allReal
   place-sound {s} {p} {n} w =
-      let x = newSlot p n (σ .last + 1) in
+      let x = newSession p n (σ .last + 1) in
       record {
         max-low = ok .max-low;
         max-high = ok .max-high;
         mark-below = ok .mark-below;
         slots =
-            put-all (σ .slot) s x (λ i y. SlotSound (σ .max) (σ .last + 1) i y)
+            replaced-all (σ .slot) s x (λ i y. SlotSound (σ .max) (σ .last + 1) i y)
             (session (record {
               number = w .below;
+              is-taken = refl;
               program-low = w .program-range .0;
               program-high = w .program-range .1;
               count-low = w .count-range .0;
@@ -136,9 +139,10 @@ module _ (σ : State) (ok : Sound σ) where
         max-high = ok .max-high;
         mark-below = ok .mark-below;
         slots =
-            put-all (σ .slot) s x (λ i y. SlotSound (σ .max) (σ .last) i y)
+            replaced-all (σ .slot) s x (λ i y. SlotSound (σ .max) (σ .last) i y)
             (session (record {
               number = w .number;
+              is-taken = w .is-taken;
               program-low = w .program-low;
               program-high = w .program-high;
               count-low = w .count-low;
@@ -160,9 +164,9 @@ module _ (σ : State) (ok : Sound σ) where
         max-low = ok .max-low;
         max-high = ok .max-high;
         mark-below = ok .mark-below;
-        slots = put-all (σ .slot) s openSlot (λ i y. SlotSound (σ .max) (σ .last) i y) (open-slot refl) (λ i d. ok .slots i);
-        distinct = distinct-put (σ .slot) s openSlot (ok .distinct) (λ k i d f. omega arith);
-        in-hand = hand-put (σ .slot) s openSlot (σ .hand) (λ l. omega (arith, w .closed)) (ok .in-hand);
+        slots = replaced-all (σ .slot) s noSession (λ i y. SlotSound (σ .max) (σ .last) i y) (open-slot refl) (λ i d. ok .slots i);
+        distinct = distinct-put (σ .slot) s noSession (ok .distinct) (λ k i d f. omega arith);
+        in-hand = hand-put (σ .slot) s noSession (σ .hand) (λ l. omega (arith, w .closed)) (ok .in-hand);
       }
 
 pub sound-kept : {σ σ′ : State} {e : Event} → Did σ e σ′ → Sound σ → Sound σ′

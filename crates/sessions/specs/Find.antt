@@ -1,5 +1,5 @@
 -- The lowest number below n that passes a test; a test of every number below n; a function changed at one number; the first n values of
--- a function. Assumes nothing.
+-- a function.
 use Prim.Native.Nat.{ℕ, zero, suc}
 use mathlib.Core.Bool.{Bool, true, _&&_, cond}
 use mathlib.Core.List.{List, [], _∷_, _++_}
@@ -26,8 +26,8 @@ unfoldable pub all : ℕ → (ℕ → Bool) → Bool
 all zero p = true
 all (suc n) p = all n p && p n
 
-unfoldable pub put : {A : Type 0} → (ℕ → A) → ℕ → A → ℕ → A
-put f s x i = cond (eqb i s) x (f i)
+unfoldable pub replaced : {A : Type 0} → (ℕ → A) → ℕ → A → ℕ → A
+replaced f s x i = cond (eqb i s) x (f i)
 
 unfoldable pub first : {A : Type 0} → ℕ → (ℕ → A) → List A
 first zero f = []

@@ -1,4 +1,4 @@
--- An answer's date and time, and its record. Assumes nothing.
+-- An answer's date and time, and its record.
 use Prim.Native.Nat.{ℕ}
 use mathlib.Core.Bool.{Bool}
 use mathlib.Core.List.{List, []}

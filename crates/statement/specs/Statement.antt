@@ -5,7 +5,7 @@ use Prim.Native.Nat.{ℕ, zero, suc}
 use mathlib.Core.Bool.{Bool, true, false, cond, not, _&&_, _||_}
 use mathlib.Core.List.{List, [], _∷_}
 use lib.Dec.{eqb}
-use Rattle.counts.specs.Refusals.{notReal, refusal}
+use Rattle.counts.specs.Refusals.{unexpected, notReal, refusal}
 use Rattle.token.specs.declared.Operator.{Operator}
 use Rattle.grammar.specs.Grammar.{Class, Point, Edge, Each, noClause, next, step, classNo, isPoint}
 use Rattle.grammar.specs.Grammar.Class.{number, date, unrealDate, time, unrealTime}

@@ -1,15 +1,11 @@
-// The session table in lent bytes: rows of four numbers, each of four bytes, low byte first. One row, or one field of it, is taken out
-// or written at a time. Above this crate nobody looks at an offset.
-use counts::CommandNumber;
+// The session table in lent bytes: rows of four numbers, each of four bytes, low byte first; how many rows there are, and the table's own. What
+// stands in the rows of a session is the crate `slot`'s.
 use counts::SessionNumber;
 use counts::Ticket;
-use record::Outcome;
-use sessions::Answer;
 ghost use mathlib.Core.Path.{_≡_};
-ghost use Prim.Native.Nat.{_+_, _*_, _<_, _≤_};
+ghost use Prim.Native.Nat.{_<_, _≤_};
 ghost use lib.ListN.{length, replicate};
-ghost use Rattle.counts.specs.Limits.{commands, sessions};
-ghost use Rattle.table_layout.specs.Layout.{tableBytes, tableNumbers, slotNumbers, number, putNumber, lastAt, markAt, handAt, headAt, answeredAt, entryAt, freshTable, tableOf, putTable, headOf, putHead, kindOf, codeOf, outcomeOf, entryOf, putEntry};
+ghost use Rattle.table_layout.specs.Layout.{tableBytes, tableNumbers, number, putNumber, lastAt, markAt, handAt, freshTable, tableOf, putTable};
 
 // The table's own row: MaxSessions, the last ticket, the number last taken up, and what is in hand (0: nothing, else one more than the
 // number of the session whose lowest unanswered command it is).
@@ -30,13 +26,15 @@ impl Table {
 
     pub const TICKET_MOST: u32 = counts::TICKET_MOST;
 
-    // The numbers in a row, and the rows of a session: its head, and one for each command's answer.
-    const ROW: usize = 4;
+    // The numbers in a row, and the rows of a session: two for its head, and one for each command's answer.
+    pub const ROW: usize = 4;
 
-    const SESSION_ROWS: usize = 1 + Table::COMMANDS as usize;
+    pub const HEAD_ROWS: usize = 2;
+
+    pub const SESSION_ROWS: usize = Table::HEAD_ROWS + Table::COMMANDS as usize;
 
     // The bytes of a table, for every MaxSessions.
-    pub const SIZE: usize = 16 * (1 + Table::SESSION_ROWS * Table::SESSIONS as usize);
+    pub const SIZE: usize = 4 * Table::ROW * (1 + Table::SESSION_ROWS * Table::SESSIONS as usize);
 
     // "A fresh table has no session, last ticket 0, nothing in hand, and 0 comes first in the turn."
     pub fn fresh(max: u32) -> Self
@@ -63,40 +61,19 @@ impl Table {
     }
 }
 
-// The head of a session: program 0 where the number is open.
-pub struct Head {
-    pub program: u32,
-    pub count: u32,
-    pub answered: u32,
-    pub ticket: Ticket,
-}
-
-fn number_at(b: &[u8], i: usize) -> u32
+// The number at a place, counted in numbers.
+pub fn number_at(b: &[u8], i: usize) -> u32
     requires { ⌜ (length (now b) ≡ tableBytes) × (i < tableNumbers) ⌝ }
     ensures { λ r. ⌜ r ≡ number (now (b .entry)) i ⌝ }
 {
     field::get32(b, 4 * i)
 }
 
-fn put_number(b: &mut [u8], i: usize, v: u32)
+pub fn put_number(b: &mut [u8], i: usize, v: u32)
     requires { ⌜ (length (now b) ≡ tableBytes) × (i < tableNumbers) ⌝ }
     ensures { λ _. ⌜ now (b .exit) ≡ putNumber (now (b .entry)) i v ⌝ }
 {
     field::put32(b, 4 * i, v)
-}
-
-fn head_at(s: SessionNumber) -> usize
-    requires { ⌜ s .0 < sessions ⌝ }
-    ensures { λ r. ⌜ (r ≡ headAt (s .0)) × (r + slotNumbers ≤ tableNumbers) ⌝ }
-{
-    Table::ROW * (1 + Table::SESSION_ROWS * (s.0 as usize))
-}
-
-fn entry_at(s: SessionNumber, c: CommandNumber) -> usize
-    requires { ⌜ (s .0 < sessions) × (1 ≤ c .0) × (c .0 ≤ commands) ⌝ }
-    ensures { λ r. ⌜ (r ≡ entryAt (s .0) (c .0)) × (r + 4 ≤ tableNumbers) ⌝ }
-{
-    head_at(s) + Table::ROW * (c.0 as usize)
 }
 
 pub fn get_table(b: &[u8]) -> Table
@@ -140,98 +117,4 @@ pub fn put_hand(b: &mut [u8], hand: u32)
     ensures { λ _. ⌜ now (b .exit) ≡ putNumber (now (b .entry)) handAt hand ⌝ }
 {
     put_number(b, 3, hand)
-}
-
-pub fn get_head(b: &[u8], s: SessionNumber) -> Head
-    requires { ⌜ (length (now b) ≡ tableBytes) × (s .0 < sessions) ⌝ }
-    ensures { λ r. ⌜ r ≡ headOf (now (b .entry)) (s .0) ⌝ }
-{
-    let at = head_at(s);
-    Head {
-        program: number_at(b, at),
-        count: number_at(b, at + 1),
-        answered: number_at(b, at + 2),
-        ticket: Ticket(number_at(b, at + 3)),
-    }
-}
-
-pub fn put_head(b: &mut [u8], s: SessionNumber, h: Head)
-    requires { ⌜ (length (now b) ≡ tableBytes) × (s .0 < sessions) ⌝ }
-    ensures { λ _. ⌜ now (b .exit) ≡ putHead (now (b .entry)) (s .0) h ⌝ }
-{
-    let at = head_at(s);
-    put_number(b, at, h.program);
-    put_number(b, at + 1, h.count);
-    put_number(b, at + 2, h.answered);
-    put_number(b, at + 3, h.ticket.0);
-}
-
-pub fn put_program(b: &mut [u8], s: SessionNumber, program: u32)
-    requires { ⌜ (length (now b) ≡ tableBytes) × (s .0 < sessions) ⌝ }
-    ensures { λ _. ⌜ now (b .exit) ≡ putNumber (now (b .entry)) (headAt (s .0)) program ⌝ }
-{
-    let at = head_at(s);
-    put_number(b, at, program)
-}
-
-pub fn put_answered(b: &mut [u8], s: SessionNumber, answered: u32)
-    requires { ⌜ (length (now b) ≡ tableBytes) × (s .0 < sessions) ⌝ }
-    ensures { λ _. ⌜ now (b .exit) ≡ putNumber (now (b .entry)) (answeredAt (s .0)) answered ⌝ }
-{
-    let at = head_at(s);
-    put_number(b, at + 2, answered)
-}
-
-fn outcome_of(kind: u32, code: u32) -> Outcome
-    ensures { λ r. ⌜ r ≡ outcomeOf kind code ⌝ }
-{
-    if kind == 0 {
-        return Outcome::Processed;
-    }
-    Outcome::Error(kind - 1, code)
-}
-
-fn kind_of(o: Outcome) -> u32
-    requires { ⌜ kindOf o ≤ 4294967295 ⌝ }
-    ensures { λ r. ⌜ r ≡ kindOf o ⌝ }
-{
-    match o {
-        Outcome::Processed => 0,
-        Outcome::Error(class, _) => class + 1,
-    }
-}
-
-fn code_of(o: Outcome) -> u32
-    ensures { λ r. ⌜ r ≡ codeOf o ⌝ }
-{
-    match o {
-        Outcome::Processed => 0,
-        Outcome::Error(_, code) => code,
-    }
-}
-
-pub fn get_entry(b: &[u8], s: SessionNumber, c: CommandNumber) -> Answer
-    requires { ⌜ (length (now b) ≡ tableBytes) × ((s .0 < sessions) × (1 ≤ c .0) × (c .0 ≤ commands)) ⌝ }
-    ensures { λ r. ⌜ r ≡ entryOf (now (b .entry)) (s .0) (c .0) ⌝ }
-{
-    let at = entry_at(s, c);
-    let kind = number_at(b, at);
-    let code = number_at(b, at + 1);
-    Answer {
-        outcome: outcome_of(kind, code),
-        date: number_at(b, at + 2),
-        time: number_at(b, at + 3),
-    }
-}
-
-pub fn put_entry(b: &mut [u8], s: SessionNumber, c: CommandNumber, a: Answer)
-    requires { ⌜ (length (now b) ≡ tableBytes) × ((s .0 < sessions) × (1 ≤ c .0) × (c .0 ≤ commands)) × (kindOf (a .outcome) ≤ 4294967295) ⌝ }
-    ensures { λ _. ⌜ now (b .exit) ≡ putEntry (now (b .entry)) (s .0) (c .0) a ⌝ }
-{
-    let at = entry_at(s, c);
-    let o = a.outcome;
-    put_number(b, at, kind_of(o));
-    put_number(b, at + 1, code_of(o));
-    put_number(b, at + 2, a.date);
-    put_number(b, at + 3, a.time);
 }

@@ -1,4 +1,4 @@
--- A reply grows by one record at its end. Assumes nothing.
+-- A reply grows by one record at its end.
 use Prim.Native.Nat.{ℕ, zero, suc, _+_, _≤_, _<_}
 use mathlib.Core.Path.{_≡_, refl, _∙_, ap, sym}
 use mathlib.Core.Bool.{true}
@@ -24,10 +24,10 @@ use Rattle.sessions.proofs.Laws.{numbered-more, all-at}
 use Rattle.sessions.proofs.Loops.{length-first}
 use Rattle.sessions.specs.Find.{first, all}
 use Rattle.sessions.specs.Records.{isDated, recordOf}
-use Rattle.sessions.specs.Sound.{isReal}
+use Rattle.sessions.specs.Sound.{inRangeAndReal}
 use Rattle.sessions.specs.Table.{numbered, records}
 use Rattle.sessions.specs.declared.Answer.{Answer}
-use Rattle.table_layout.specs.Layout.{entryOf}
+use Rattle.slot.specs.Fields.{entryOf}
 use Rattle.table_reply.specs.Reply.{replyOf}
 
 records-append : (l m : List (ℕ × Answer)) → records (l ++ m) ≡ records l ++ records m
@@ -72,11 +72,11 @@ module _ (b : List ℕ) (s : ℕ) where
 
   -- the next record has its room, where all have
   pub next-fits : (n i at : ℕ) (out : List ℕ) (a : Answer) → a ≡ entryOf b s (i + 1) → i < n → n ≤ commands
-      → all n (λ k. isReal (entryOf b s (k + 1))) ≡ true → at ≡ length (replyOf b s i) → length (replyOf b s n) ≤ length out
+      → all n (λ k. inRangeAndReal (entryOf b s (k + 1))) ≡ true → at ≡ length (replyOf b s i) → length (replyOf b s n) ≤ length out
       → Fits commands (content (i + 1) (a .outcome) [] (a .date) (a .time)) at out
-  unfolding isReal inRange isText runEnd run
+  unfolding inRangeAndReal inRange isText runEnd run
   next-fits n i at out a p l h e q room =
-      let r : isReal a ≡ true = ap isReal p ∙ all-at (λ k. isReal (entryOf b s (k + 1))) n e l in
+      let r : inRangeAndReal a ≡ true = ap inRangeAndReal p ∙ all-at (λ k. inRangeAndReal (entryOf b s (k + 1))) n e l in
       let m = ap length (reply-more i) ∙ length-append (replyOf b s i) (recordOf (i + 1) (entryOf b s (i + 1))) in
       let z = ap (λ x. length (recordOf (i + 1) x)) p in
       record {

@@ -2,7 +2,7 @@
 use counts::CommandNumber;
 use counts::SessionNumber;
 use sessions::Answer;
-use table_layout::get_entry;
+use slot::get_entry;
 ghost use mathlib.Core.Path.{_≡_};
 ghost use mathlib.Core.Bool.{true};
 ghost use mathlib.Core.List.{[]};
@@ -14,8 +14,9 @@ ghost use Rattle.record.specs.Record.{content};
 ghost use Rattle.record.specs.Writing.{Fits};
 ghost use Rattle.sessions.specs.Find.{all};
 ghost use Rattle.sessions.specs.Records.{recordOf};
-ghost use Rattle.sessions.specs.Sound.{isReal};
-ghost use Rattle.table_layout.specs.Layout.{tableBytes, entryOf};
+ghost use Rattle.sessions.specs.Sound.{inRangeAndReal};
+ghost use Rattle.slot.specs.Fields.{entryOf};
+ghost use Rattle.table_layout.specs.Layout.{tableBytes};
 ghost use Rattle.table_reply.specs.Reply.{replyOf};
 
 // How many bytes the first n records take.
@@ -45,7 +46,7 @@ fn put_answer(out: &mut [u8], at: usize, command: CommandNumber, a: Answer) -> u
 
 // Writes the first n records from the start of out on, and gives the place after them.
 pub fn write_reply(b: &[u8], s: SessionNumber, n: u32, out: &mut [u8]) -> usize
-    requires { ⌜ (length (now b) ≡ tableBytes) × (s .0 < sessions) × (n ≤ commands) × (all n (λ i. isReal (entryOf (now b) (s .0) (i + 1))) ≡ true) × (length (replyOf (now b) (s .0) n) ≤ length (now out)) ⌝ }
+    requires { ⌜ (length (now b) ≡ tableBytes) × (s .0 < sessions) × (n ≤ commands) × (all n (λ i. inRangeAndReal (entryOf (now b) (s .0) (i + 1))) ≡ true) × (length (replyOf (now b) (s .0) n) ≤ length (now out)) ⌝ }
     ensures { λ r. ⌜ Wrote (now (out .entry)) 0 (replyOf (now (b .entry)) (s .0) n) (now (out .exit)) r ⌝ }
 {
     let mut i: u32 = 0;

@@ -1,23 +1,19 @@
 -- What the searches of a table's bytes find. Need not be believed: it binds only the searches, and what the calls answer is said without
--- it. Assumes nothing.
+-- it.
 use Prim.Native.Nat.{ℕ}
-use mathlib.Core.Bool.{Bool, true, false}
 use mathlib.Core.List.{List}
 use Rattle.sessions.specs.Find.{Found, none, at, find}
 use Rattle.sessions.specs.Table.{State, isOpen, isWaiting, isReady, turn}
 use Rattle.table_layout.specs.Layout.{number, maxAt}
-use Rattle.table_search.specs.declared.Found.{Found as SessionFound}
-use Rattle.table_search.specs.declared.Found.the-variants.{At, Nothing}
-use Rattle.table_sound.specs.Bytes.{slotOf, abs}
+use Rattle.table_search.specs.declared.SessionFound.{SessionFound}
+use Rattle.table_search.specs.declared.SessionFound.the-variants.{At, Nothing}
+use Rattle.slot.specs.Fields.{slotOf}
+use Rattle.table_sound.specs.Bytes.{abs}
 
 -- the paper's value: a session's number, or none
 abbrev pub paperFound : SessionFound → Found
 paperFound (At s) = at (s .0)
 paperFound Nothing = none
-
-abbrev pub isFound : Found → Bool
-isFound none = false
-isFound (at s) = true
 
 -- "the lowest open number"
 abbrev pub openIn : List ℕ → Found

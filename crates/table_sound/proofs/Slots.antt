@@ -1,158 +1,170 @@
--- What the tests of a slot are on its bytes. Assumes nothing.
+-- What the tests of soundness are on a table's bytes.
 use Prim.Native.Nat.{ℕ, _+_, _-_, _≤_, _<_}
 use mathlib.Core.Path.{_≡_, refl, _∙_, ap, sym}
-use mathlib.Core.Bool.{Bool, true, false, cond, _&&_, not, and-false}
+use mathlib.Core.Bool.{Bool, true, false, cond, _&&_, _||_, not, and-false}
 use mathlib.Core.Logic.{⊎-elim}
 use mathlib.Core.List.{List}
-use native.Mathlib.Nat.{eq-zero-or-pos}
+use native.Mathlib.Nat.{eq-or-lt-of-le}
 use native.Mathlib.Omega.{arith}
 use lib.Dec.{eqb, leb, ltb}
-use lib.ListN.{length}
-use borrow.Author.Needs.{needs}
-use borrow.Author.Tests.{lt-ltb, le-ltb, eq-eqb, ne-eqb}
+use lib.ListN.{length, getD, set, length-set}
+use lib.Seq.{getD-set-same}
+use borrow.Author.Needs.{read-below}
+use borrow.Author.Tests.{eq-eqb, ne-eqb}
 use Rattle.counts.specs.Limits.{commands, programs, sessions, ticketMost}
-use Rattle.sessions.proofs.Loops.{length-first, all-real}
-use Rattle.sessions.proofs.Parts.{few-of-head}
-use Rattle.sessions.specs.Find.{at, all}
-use Rattle.sessions.specs.Sound.{sound, maxInRange, markBelow, inRange, headSound, differs, isNew, isReal, slotSound, handSound}
-use Rattle.sessions.specs.Table.{openSlot, isOpen, isWaiting}
-use Rattle.table_layout.specs.Layout.{tableBytes, number, headAt, answeredAt, entryOf, headOf, tableOf, handAt}
-use Rattle.table_layout.specs.declared.Head.{Head}
+use Rattle.sessions.proofs.Loops.{all-same, all-real}
+use Rattle.sessions.proofs.Parts.{of-head}
+use Rattle.sessions.specs.Find.{none, at, all}
+use Rattle.sessions.specs.Sound.{sound, maxInRange, markBelow, inRange, headSound, differs, isNew, inRangeAndReal, allReal, slotSound, handSound}
+use Rattle.sessions.specs.Table.{Session, noSession, within, isOpen, isWaiting}
+use Rattle.slot.proofs.Told.{told-session, told-answers, is-taken, slot-beyond, slot-told}
+use Rattle.slot.specs.Fields.{headOf, entryOf, sessionOf, told, slotOf, Tells}
+use Rattle.slot.specs.declared.Head.{Head}
+use Rattle.table_layout.specs.Layout.{tableBytes, tableOf}
 use Rattle.table_layout.specs.declared.Table.{Table}
-use Rattle.table_sound.specs.Bytes.{handOf, heldSlot, slotOf, abs, soundBytes}
+use Rattle.table_sound.specs.Bytes.{handOf, abs, soundBytes, Seen}
 
-module _ (b : List ℕ) (s : ℕ) where
-  -- a slot past the last, an open one, and a session
-  pub slot-beyond : sessions ≤ s → slotOf b s ≡ openSlot
-  unfolding slotOf
-  slot-beyond l = rw (le-ltb s sessions l)
+pub head-is : (max last s : ℕ) (h : Head) → (h .taken ≡ 0 → ⊥)
+    → Tells h (headSound max last s)
+    (ltb s max
+    && (leb 1 (h .program) && leb (h .program) programs && (leb 1 (h .count) && leb (h .count) commands) && (leb 1 (h .ticket .0) && leb (h .ticket .0) ticketMost))
+    && leb (h .ticket .0) last
+    && leb (h .answered) (h .count))
+unfolding headSound inRange
+head-is max last s h n answer = rw (told-session h answer n, told-answers h answer)
 
-  pub slot-open : number b (headAt s) ≡ 0 → slotOf b s ≡ openSlot
-  unfolding slotOf
-  slot-open e = go (ltb s sessions)
-    where
-      go : (t : Bool) → cond (t && not (eqb (number b (headAt s)) 0)) (heldSlot b s) openSlot ≡ openSlot
-      go true = rw (eq-eqb (number b (headAt s)) 0 e)
-      go false = refl
+-- a ticket is none of a number's: of no session's, as an open number has ticket 0
+differs-is : (b : List ℕ) (i t : ℕ) → 1 ≤ t → not (eqb (slotOf b i .ticket) t) ≡ differs (slotOf b i) t
+unfolding slotOf told differs isOpen
+differs-is b i t l = go (ltb i sessions) (eqb (headOf b i .taken) 0)
+  where
+    go : (k m : Bool) → let x = cond k (cond m noSession (sessionOf (headOf b i) (entryOf b i))) noSession in
+        not (eqb (x .ticket) t) ≡ (not (x .taken) || not (eqb (x .ticket) t))
+    go true true = rw (ne-eqb 0 t (λ e. omega arith))
+    go true false = refl
+    go false m = rw (ne-eqb 0 t (λ e. omega arith))
 
-  pub slot-held : s < sessions → (number b (headAt s) ≡ 0 → ⊥) → slotOf b s ≡ heldSlot b s
-  unfolding slotOf
-  slot-held l n = rw (lt-ltb s sessions l, ne-eqb (number b (headAt s)) 0 n)
+-- ---- one slot
 
-  -- its answers, as many as its head says
-  pub answers-held : length (heldSlot b s .answers) ≡ number b (answeredAt s)
-  answers-held = length-first (number b (answeredAt s)) (λ i. entryOf b s (i + 1))
+module _ {b : List ℕ} {t : Table} {s : ℕ} {h : Head} {seen : List ℕ}
+  (pre : (length b ≡ tableBytes) × (s < sessions) × (t ≡ tableOf b) × (h ≡ headOf b s) × Seen b s seen) where
+  its-slot : slotOf b s ≡ told h (entryOf b s)
+  its-slot = slot-told b s (pre .1) ∙ ap (λ x. told x (entryOf b s)) (sym (pre .3))
 
-  module _ (h : Head) (q : h ≡ headOf b s) where
-    is-program : h .program ≡ number b (headAt s)
-    unfolding headOf
-    is-program = ap (λ x. x .program) q
-
-    pub is-open-slot : h .program ≡ 0 → slotOf b s ≡ openSlot
-    is-open-slot e = slot-open (sym is-program ∙ e)
-
-    pub is-held-slot : s < sessions → (h .program ≡ 0 → ⊥) → slotOf b s ≡ heldSlot b s
-    is-held-slot l n = slot-held l (λ e. n (is-program ∙ e))
-
-    pub open-is : s < sessions → eqb (h .program) 0 ≡ isOpen (slotOf b s)
-    unfolding isOpen
-    open-is l =
-        ⊎-elim
-        (λ e. rw (is-open-slot e, eq-eqb (h .program) 0 e))
-        (λ k. rw (is-held-slot l (λ e. omega arith), is-program))
-        (eq-zero-or-pos (h .program))
-
-    pub not-waiting : h .program ≡ 0 → false ≡ isWaiting (slotOf b s)
-    unfolding isWaiting
-    not-waiting e = rw (is-open-slot e)
-
-    pub waiting-is : s < sessions → (h .program ≡ 0 → ⊥) → ltb (h .answered) (h .count) ≡ isWaiting (slotOf b s)
-    unfolding isWaiting headOf
-    waiting-is l n = rw (is-held-slot l n, answers-held, q)
-
-    pub no-ticket : (t : ℕ) → h .program ≡ 0 → true ≡ differs (slotOf b s) t
-    unfolding differs isOpen
-    no-ticket t e = rw (is-open-slot e)
-
-    pub differs-is : (t : ℕ) → s < sessions → (h .program ≡ 0 → ⊥) → not (eqb (h .ticket .0) t) ≡ differs (slotOf b s) t
-    unfolding differs isOpen headOf
-    differs-is t l n = rw (is-held-slot l n, ne-eqb (number b (headAt s)) 0 (λ e. n (is-program ∙ e)), q)
-
-    pub head-is : (t : Table) → t ≡ tableOf b
-        → (ltb s (t .max)
-        && (leb 1 (h .program) && leb (h .program) programs && (leb 1 (h .count) && leb (h .count) commands) && (leb 1 (h .ticket .0) && leb (h .ticket .0) ticketMost))
-        && leb (h .ticket .0) (t .last .0)
-        && leb (h .answered) (h .count))
-        ≡ headSound (abs b) s (heldSlot b s)
-    unfolding headSound inRange headOf tableOf
-    head-is t p = rw (answers-held, q, p)
-
-    pub sound-open : h .program ≡ 0 → true ≡ slotSound (abs b) s (slotOf b s)
-    unfolding slotSound isOpen
-    sound-open e = rw (is-open-slot e)
+  module _ (free : Bool) (free-said : Tells h isOpen free) where
+    pub sound-open : free ≡ true → true ≡ slotSound (abs b) s (slotOf b s)
+    unfolding slotSound
+    sound-open e = rw (its-slot, ← (free-said (entryOf b s)), e)
 
     -- the tests of a session, each as a function answers it
-    module _ (l : s < sessions) (n : h .program ≡ 0 → ⊥) where
-      slot-tests-are : slotSound (abs b) s (slotOf b s) ≡ (headSound (abs b) s (heldSlot b s) && all s (λ i. differs (slotOf b i) (h .ticket .0)) && all (h .answered) (λ i. isReal (entryOf b s (i + 1))))
-      unfolding slotSound isOpen isNew headOf
-      slot-tests-are =
-          rw (is-held-slot l n, ne-eqb (number b (headAt s)) 0 (λ e. n (is-program ∙ e)), all-real (number b (answeredAt s)) (λ i. entryOf b s (i + 1)), q)
+    module _ (not-open : free ≡ false) where
+      pub taken : h .taken ≡ 0 → ⊥
+      taken = is-taken h (entryOf b s) (free-said (entryOf b s)) not-open
 
-      module _ (head-ok : Bool) (head-said : head-ok ≡ headSound (abs b) s (heldSlot b s)) where
-        pub few-answers : head-ok ≡ true → h .answered ≤ commands
-        unfolding headOf
-        few-answers e = rw (q, ← answers-held) (few-of-head (abs b) s (heldSlot b s) (sym head-said ∙ e))
+      abbrev x : Session
+      x = told h (entryOf b s)
 
+      slot-tests-are : slotSound (abs b) s (slotOf b s)
+          ≡ (headSound (t .max) (t .last .0) s x && all s (λ i. differs (slotOf b i) (x .ticket)) && allReal (x .answers))
+      unfolding slotSound isNew tableOf
+      slot-tests-are = rw (its-slot, ← (free-said (entryOf b s)), not-open, pre .2)
+
+      module _ (head-ok : Bool) (head-said : Tells h (headSound (t .max) (t .last .0) s) head-ok) where
         pub sound-no-head : head-ok ≡ false → false ≡ slotSound (abs b) s (slotOf b s)
-        sound-no-head e = rw (slot-tests-are, ← head-said, e)
+        sound-no-head e = rw (slot-tests-are, ← (head-said (entryOf b s)), e)
 
-        module _ (new-ok : Bool) (new-said : new-ok ≡ all s (λ i. differs (slotOf b i) (h .ticket .0))) where
-          pub sound-not-new : new-ok ≡ false → false ≡ slotSound (abs b) s (slotOf b s)
-          sound-not-new e = rw (slot-tests-are, ← new-said, e, and-false)
+        module _ (good : head-ok ≡ true) where
+          bounds : (1 ≤ h .ticket .0) × (h .answered ≤ commands)
+          bounds =
+              let k = of-head (t .max) (t .last .0) s x (sym (head-said (entryOf b s)) ∙ good) in
+              let e = told-session h (entryOf b s) taken in
+              (omega (arith, k .0, ap (λ y. y .ticket) e), omega (arith, k .1, ap (λ y. length (y .answers)) e, told-answers h (entryOf b s)))
 
-          pub sound-answers : head-ok ≡ true → new-ok ≡ true → all (h .answered) (λ i. isReal (entryOf b s (i + 1))) ≡ slotSound (abs b) s (slotOf b s)
-          sound-answers d e = rw (slot-tests-are, ← head-said, ← new-said, d, e)
+          pub few-answers : h .answered ≤ commands
+          few-answers = bounds .1
 
-pub limits-are : (b : List ℕ) (t : Table) → t ≡ tableOf b → (leb 1 (t .max) && leb (t .max) sessions && ltb (t .mark .0) (t .max)) ≡ (maxInRange (abs b) && markBelow (abs b))
-unfolding maxInRange markBelow tableOf
-limits-are b t p = rw p
+          module _ (new-ok : Bool) (new-said : new-ok ≡ all s (λ i. not (eqb (getD seen i 0) (h .ticket .0)))) where
+            rest-is : slotSound (abs b) s (slotOf b s) ≡ (new-ok && all (h .answered) (λ i. inRangeAndReal (entryOf b s (i + 1))))
+            rest-is =
+                slot-tests-are
+                ∙ rw (
+                  ← (head-said (entryOf b s)),
+                  good,
+                  told-session h (entryOf b s) taken,
+                  new-said,
+                  all-same _ _ s (λ i l. ap (λ k. not (eqb k (h .ticket .0))) (pre .4 .tickets i l) ∙ differs-is b i (h .ticket .0) (bounds .0)),
+                  all-real (h .answered) (λ i. entryOf b s (i + 1)),
+                )
 
--- what is in hand, by the number that stands there
-module _ (b : List ℕ) (n : ℕ) (q : n ≡ number b handAt) where
-  pub hand-none : n ≡ 0 → true ≡ handSound (abs b) (handOf (number b handAt))
-  unfolding handSound handOf
-  hand-none e = rw (← q, e)
+            pub sound-not-new : new-ok ≡ false → false ≡ slotSound (abs b) s (slotOf b s)
+            sound-not-new e = rw (rest-is, e)
 
-  hand-at : (n ≡ 0 → ⊥) → handOf (number b handAt) ≡ at (n - 1)
+            pub sound-answers : new-ok ≡ true → all (h .answered) (λ i. inRangeAndReal (entryOf b s (i + 1))) ≡ slotSound (abs b) s (slotOf b s)
+            sound-answers e = rw (rest-is, e)
+
+-- ---- the tickets seen
+
+module _ (b seen : List ℕ) where
+  pub seen-none : Seen b 0 seen
+  seen-none = record { room = omega arith; tickets = λ i l. absurd (omega arith) }
+
+  pub seen-more : (s v : ℕ) (h : Head) → s < length seen → s < sessions → h ≡ headOf b s → Tells h (λ x. x .ticket) v → Seen b s seen
+      → Seen b (s + 1) (set seen s v)
+  seen-more s v h l below q said w =
+      let e : v ≡ slotOf b s .ticket = said (entryOf b s) ∙ rw (slot-told b s below, q) in
+      record {
+        room = rw length-set (omega arith);
+        tickets = λ i k.
+            ⊎-elim
+            (λ (q : i ≡ s). rw q (getD-set-same seen s v 0 l ∙ e))
+            (λ (m : i < s). read-below ℕ seen s i v 0 _ m (w .tickets i m))
+            (eq-or-lt-of-le {n = i} {m = s} (omega arith));
+      }
+
+-- ---- what is in hand, by the number that stands there
+
+module _ (n : ℕ) where
+  pub hand-empty : n ≡ 0 → handOf n ≡ none
   unfolding handOf
-  hand-at k = rw (← q, ne-eqb n 0 k)
+  hand-empty e = rw e
 
-  pub hand-is : (n ≡ 0 → ⊥) → isWaiting (slotOf b (n - 1)) ≡ handSound (abs b) (handOf (number b handAt))
+  pub hand-full : (n ≡ 0 → ⊥) → handOf n ≡ at (n - 1)
+  unfolding handOf
+  hand-full k = rw (ne-eqb n 0 k)
+
+module _ (b : List ℕ) (n : ℕ) where
+  pub hand-none : n ≡ 0 → true ≡ handSound (abs b) (handOf n)
   unfolding handSound
-  hand-is k = rw (hand-at k)
+  hand-none e = rw (hand-empty n e)
 
-  pub hand-beyond : (n ≡ 0 → ⊥) → sessions ≤ n - 1 → false ≡ handSound (abs b) (handOf (number b handAt))
-  unfolding isWaiting
-  hand-beyond k l = sym (sym (hand-is k) ∙ rw (slot-beyond b (n - 1) l))
+  module _ (k : n ≡ 0 → ⊥) where
+    pub hand-is : n - 1 < sessions → (h : Head) → h ≡ headOf b (n - 1) → (r : Bool) → Tells h isWaiting r → r ≡ handSound (abs b) (handOf n)
+    unfolding handSound
+    hand-is l h q r said = said (entryOf b (n - 1)) ∙ rw (hand-full n k, slot-told b (n - 1) l, q)
 
-pub ruleset slot-tests = (needs, open-is, not-waiting, waiting-is, no-ticket, differs-is, head-is, limits-are)
+    pub hand-beyond : sessions ≤ n - 1 → false ≡ handSound (abs b) (handOf n)
+    unfolding handSound isWaiting
+    hand-beyond l = rw (hand-full n k, slot-beyond b (n - 1) l)
 
--- the four ways through the test of the whole
+-- ---- the four ways through the test of the whole
+
 module _ (b : List ℕ) where
   pub sound-no-size : (length b ≡ tableBytes → ⊥) → false ≡ soundBytes b
   unfolding soundBytes
   sound-no-size n = rw (ne-eqb (length b) tableBytes n)
 
-  module _ (size : length b ≡ tableBytes) (limits-ok : Bool) (limits-said : limits-ok ≡ (maxInRange (abs b) && markBelow (abs b))) where
+  module _ (size : length b ≡ tableBytes) (t : Table) (p : t ≡ tableOf b)
+    (limits-ok : Bool) (limits-said : limits-ok ≡ (within 1 (t .max) sessions && ltb (t .mark .0) (t .max))) where
+    sound-is : soundBytes b ≡ (limits-ok && all sessions (λ s. slotSound (abs b) s (slotOf b s)) && handSound (abs b) (handOf (t .hand)))
+    unfolding soundBytes sound maxInRange markBelow tableOf
+    sound-is = rw (eq-eqb (length b) tableBytes size, limits-said, p)
+
     pub sound-no-limits : limits-ok ≡ false → false ≡ soundBytes b
-    unfolding soundBytes sound
-    sound-no-limits e = rw (eq-eqb (length b) tableBytes size, ← limits-said, e)
+    sound-no-limits e = rw (sound-is, e)
 
     module _ (slots-ok : Bool) (slots-said : slots-ok ≡ all sessions (λ s. slotSound (abs b) s (slotOf b s))) where
       pub sound-no-slots : slots-ok ≡ false → false ≡ soundBytes b
-      unfolding soundBytes sound
-      sound-no-slots e = rw (eq-eqb (length b) tableBytes size, ← slots-said, e, and-false)
+      sound-no-slots e = rw (sound-is, ← slots-said, e, and-false)
 
-      pub sound-hand : limits-ok ≡ true → slots-ok ≡ true → handSound (abs b) (handOf (number b handAt)) ≡ soundBytes b
-      unfolding soundBytes sound
-      sound-hand d e = rw (eq-eqb (length b) tableBytes size, ← limits-said, ← slots-said, d, e)
+      pub sound-hand : limits-ok ≡ true → slots-ok ≡ true → handSound (abs b) (handOf (t .hand)) ≡ soundBytes b
+      sound-hand d e = rw (sound-is, ← slots-said, d, e)

@@ -1,31 +1,19 @@
--- What lent bytes say: the session table without bytes that they hold, and when they are sound. Assumes nothing.
-use Prim.Native.Nat.{ℕ, _+_, _-_}
-use mathlib.Core.Bool.{Bool, _&&_, not, cond}
+-- What lent bytes say: the session table without bytes that they hold, and when they are sound.
+use Prim.Native.Nat.{ℕ, _-_, _≤_, _<_}
+use mathlib.Core.Path.{_≡_}
+use mathlib.Core.Bool.{Bool, _&&_, cond}
 use mathlib.Core.List.{List}
-use lib.Dec.{eqb, ltb}
-use lib.ListN.{length}
-use Rattle.counts.specs.Limits.{sessions}
-use Rattle.sessions.specs.Find.{Found, none, at, first}
+use lib.Dec.{eqb}
+use lib.ListN.{length, getD}
+use Rattle.sessions.specs.Find.{Found, none, at}
 use Rattle.sessions.specs.Sound.{sound}
-use Rattle.sessions.specs.Table.{Slot, openSlot, State}
-use Rattle.table_layout.specs.Layout.{tableBytes, number, maxAt, lastAt, markAt, handAt, headAt, answeredAt, entryOf}
+use Rattle.sessions.specs.Table.{State}
+use Rattle.slot.specs.Fields.{slotOf}
+use Rattle.table_layout.specs.Layout.{tableBytes, number, maxAt, lastAt, markAt, handAt}
 
 -- 0: nothing in hand; else one more than the session's number
 unfoldable pub handOf : ℕ → Found
 handOf hand = cond (eqb hand 0) none (at (hand - 1))
-
--- a slot with a program holds a session; any other is open, whatever stands in its bytes
-abbrev pub heldSlot : List ℕ → ℕ → Slot
-heldSlot b s =
-    record {
-      program = number b (headAt s);
-      count = number b (headAt s + 1);
-      ticket = number b (headAt s + 3);
-      answers = first (number b (answeredAt s)) (λ i. entryOf b s (i + 1));
-    }
-
-unfoldable pub slotOf : List ℕ → ℕ → Slot
-slotOf b s = cond (ltb s sessions && not (eqb (number b (headAt s)) 0)) (heldSlot b s) openSlot
 
 -- the table without bytes
 abbrev pub abs : List ℕ → State
@@ -35,3 +23,10 @@ abs b =
 -- "A table is sound when: it has a table's size", and what it holds is sound
 unfoldable pub soundBytes : List ℕ → Bool
 soundBytes b = eqb (length b) tableBytes && sound (abs b)
+
+-- ---- Need not be believed: what binds functions inside `is_sound` alone.
+
+-- the tickets of the first s numbers, 0 where one is open
+pub record Seen (b : List ℕ) (s : ℕ) (seen : List ℕ) : Type 0 where
+  pub room : s ≤ length seen
+  pub tickets : (i : ℕ) → i < s → getD seen i 0 ≡ slotOf b i .ticket

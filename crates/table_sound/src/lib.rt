@@ -1,49 +1,38 @@
-// Whether lent bytes are a sound session table, for any bytes of any length.
+// Whether lent bytes are a sound session table, for any bytes of any length. The table's own row is read once, and each session's head once as
+// the sessions are gone through; the tickets seen so far are kept beside.
 use counts::CommandNumber;
 use counts::SessionNumber;
 use counts::Ticket;
 use sessions::Answer;
+use slot::Head;
+use slot::get_entry;
+use slot::get_head;
 use table_layout::Table;
-use table_layout::get_entry;
-use table_layout::get_head;
 use table_layout::get_table;
 ghost use mathlib.Core.Path.{_≡_};
-ghost use mathlib.Core.Bool.{_&&_};
+ghost use mathlib.Core.Bool.{_&&_, not};
 ghost use Prim.Native.Nat.{_+_, _<_, _≤_};
-ghost use lib.ListN.{length};
+ghost use lib.Dec.{eqb, ltb};
+ghost use lib.ListN.{length, getD};
 ghost use Rattle.counts.specs.Limits.{commands, sessions};
 ghost use Rattle.sessions.specs.Find.{all};
-ghost use Rattle.sessions.specs.Sound.{maxInRange, markBelow, headSound, differs, isReal, slotSound, handSound};
-ghost use Rattle.sessions.specs.Table.{isOpen, isWaiting};
-ghost use Rattle.table_layout.specs.Layout.{tableBytes, handAt, number, entryOf};
-ghost use Rattle.table_sound.specs.Bytes.{handOf, heldSlot, slotOf, abs, soundBytes};
+ghost use Rattle.sessions.specs.Sound.{headSound, inRangeAndReal, slotSound, handSound};
+ghost use Rattle.sessions.specs.Table.{within};
+ghost use Rattle.slot.specs.Fields.{headOf, entryOf, slotOf, Tells};
+ghost use Rattle.table_layout.specs.Layout.{tableBytes, tableOf};
+ghost use Rattle.table_sound.specs.Bytes.{handOf, abs, soundBytes, Seen};
 
-// Whether the number is open.
-pub fn is_open(b: &[u8], s: SessionNumber) -> bool
-    requires { ⌜ (length (now b) ≡ tableBytes) × (s .0 < sessions) ⌝ }
-    ensures { λ r. ⌜ r ≡ isOpen (slotOf (now (b .entry)) (s .0)) ⌝ }
+// MaxSessions in range, and the turn's mark below it.
+fn limits_are_sound(t: Table) -> bool
+    ensures { λ r. ⌜ r ≡ (within 1 (t .max) sessions && ltb (t .mark .0) (t .max)) ⌝ }
 {
-    get_head(b, s).program == 0
+    (1 <= t.max) & (t.max <= Table::SESSIONS) & (t.mark.0 < t.max)
 }
 
-// Whether the session has an unanswered command.
-pub fn is_waiting(b: &[u8], s: SessionNumber) -> bool
-    requires { ⌜ (length (now b) ≡ tableBytes) × (s .0 < sessions) ⌝ }
-    ensures { λ r. ⌜ r ≡ isWaiting (slotOf (now (b .entry)) (s .0)) ⌝ }
+fn head_is_sound(t: Table, s: SessionNumber, h: Head) -> bool
+    requires { ⌜ (h .taken ≡ 0 → ⊥) ⌝ }
+    ensures { λ r. ⌜ Tells h (headSound (t .max) (t .last .0) (s .0)) r ⌝ }
 {
-    let h = get_head(b, s);
-    if h.program == 0 {
-        return false;
-    }
-    h.answered < h.count
-}
-
-fn head_is_sound(b: &[u8], s: SessionNumber) -> bool
-    requires { ⌜ (length (now b) ≡ tableBytes) × (s .0 < sessions) ⌝ }
-    ensures { λ r. ⌜ r ≡ headSound (abs (now (b .entry))) (s .0) (heldSlot (now (b .entry)) (s .0)) ⌝ }
-{
-    let t = get_table(b);
-    let h = get_head(b, s);
     (s.0 < t.max)
         & ((1 <= h.program)
             & (h.program <= Table::PROGRAMS)
@@ -53,37 +42,23 @@ fn head_is_sound(b: &[u8], s: SessionNumber) -> bool
         & (h.answered <= h.count)
 }
 
-// Whether the ticket is not that of the session.
-fn differs_from(b: &[u8], s: SessionNumber, t: Ticket) -> bool
-    requires { ⌜ (length (now b) ≡ tableBytes) × (s .0 < sessions) ⌝ }
-    ensures { λ r. ⌜ r ≡ differs (slotOf (now (b .entry)) (s .0)) (t .0) ⌝ }
+// Whether the ticket is none of the first n seen.
+fn is_new(seen: &[u32], n: u32, t: Ticket) -> bool
+    requires { ⌜ n ≤ length (now seen) ⌝ }
+    ensures { λ r. ⌜ r ≡ all n (λ i. not (eqb (getD (now (seen .entry)) i 0) (t .0))) ⌝ }
 {
-    let h = get_head(b, s);
-    if h.program == 0 {
-        return true;
-    }
-    h.ticket.0 != t.0
-}
-
-// Whether no session below this number has the ticket.
-fn is_new(b: &[u8], s: SessionNumber, t: Ticket) -> bool
-    requires { ⌜ (length (now b) ≡ tableBytes) × (s .0 < sessions) ⌝ }
-    ensures { λ r. ⌜ r ≡ all (s .0) (λ i. differs (slotOf (now (b .entry)) i) (t .0)) ⌝ }
-{
-    let n = s.0;
     let mut i: u32 = 0;
     while i < n {
-        if differs_from(b, SessionNumber(i), t) {
-            i += 1;
-        } else {
+        if seen[i as usize] == t.0 {
             return false;
         }
+        i += 1;
     }
     true
 }
 
-fn is_real(a: Answer) -> bool
-    ensures { λ r. ⌜ r ≡ isReal a ⌝ }
+fn in_range_and_real(a: Answer) -> bool
+    ensures { λ r. ⌜ r ≡ inRangeAndReal a ⌝ }
 {
     if moment::is_real(a.date, a.time) {
         let o = a.outcome;
@@ -95,11 +70,11 @@ fn is_real(a: Answer) -> bool
 // Whether each of the first n answers of the session is in range with a real date and time.
 fn answers_are_real(b: &[u8], s: SessionNumber, n: u32) -> bool
     requires { ⌜ (length (now b) ≡ tableBytes) × (s .0 < sessions) × (n ≤ commands) ⌝ }
-    ensures { λ r. ⌜ r ≡ all n (λ i. isReal (entryOf (now (b .entry)) (s .0) (i + 1))) ⌝ }
+    ensures { λ r. ⌜ r ≡ all n (λ i. inRangeAndReal (entryOf (now (b .entry)) (s .0) (i + 1))) ⌝ }
 {
     let mut i: u32 = 0;
     while i < n {
-        if is_real(get_entry(b, s, CommandNumber(i + 1))) {
+        if in_range_and_real(get_entry(b, s, CommandNumber(i + 1))) {
             i += 1;
         } else {
             return false;
@@ -108,17 +83,16 @@ fn answers_are_real(b: &[u8], s: SessionNumber, n: u32) -> bool
     true
 }
 
-fn slot_is_sound(b: &[u8], s: SessionNumber) -> bool
-    requires { ⌜ (length (now b) ≡ tableBytes) × (s .0 < sessions) ⌝ }
+fn slot_is_sound(b: &[u8], t: Table, s: SessionNumber, h: Head, seen: &[u32]) -> bool
+    requires { ⌜ (length (now b) ≡ tableBytes) × (s .0 < sessions) × (t ≡ tableOf (now b)) × (h ≡ headOf (now b) (s .0)) × Seen (now b) (s .0) (now seen) ⌝ }
     ensures { λ r. ⌜ r ≡ slotSound (abs (now (b .entry))) (s .0) (slotOf (now (b .entry)) (s .0)) ⌝ }
 {
-    let h = get_head(b, s);
-    if h.program == 0 {
+    if h.is_open() {
         return true;
     }
-    if head_is_sound(b, s) {
-        let t = h.ticket;
-        if is_new(b, s, t) {
+    if head_is_sound(t, s, h) {
+        let ticket = h.ticket;
+        if is_new(seen, s.0, ticket) {
             let n = h.answered;
             answers_are_real(b, s, n)
         } else {
@@ -129,13 +103,16 @@ fn slot_is_sound(b: &[u8], s: SessionNumber) -> bool
     }
 }
 
-fn slots_are_sound(b: &[u8]) -> bool
-    requires { ⌜ length (now b) ≡ tableBytes ⌝ }
+fn slots_are_sound(b: &[u8], t: Table) -> bool
+    requires { ⌜ (length (now b) ≡ tableBytes) × (t ≡ tableOf (now b)) ⌝ }
     ensures { λ r. ⌜ r ≡ all sessions (λ s. slotSound (abs (now (b .entry))) s (slotOf (now (b .entry)) s)) ⌝ }
 {
+    let mut seen = [0u32; Table::SESSIONS as usize];
     let mut s: u32 = 0;
     while s < Table::SESSIONS {
-        if slot_is_sound(b, SessionNumber(s)) {
+        let h = get_head(b, SessionNumber(s));
+        if slot_is_sound(b, t, SessionNumber(s), h, &seen) {
+            seen[s as usize] = h.ticket_held().0;
             s += 1;
         } else {
             return false;
@@ -144,27 +121,17 @@ fn slots_are_sound(b: &[u8]) -> bool
     true
 }
 
-// MaxSessions in range, and the turn's mark below it.
-fn limits_are_sound(b: &[u8]) -> bool
-    requires { ⌜ length (now b) ≡ tableBytes ⌝ }
-    ensures { λ r. ⌜ r ≡ (maxInRange (abs (now (b .entry))) && markBelow (abs (now (b .entry)))) ⌝ }
-{
-    let t = get_table(b);
-    (1 <= t.max) & (t.max <= Table::SESSIONS) & (t.mark.0 < t.max)
-}
-
 // Whether the command in hand is the lowest unanswered of its session.
-fn hand_is_sound(b: &[u8]) -> bool
+fn hand_is_sound(b: &[u8], hand: u32) -> bool
     requires { ⌜ length (now b) ≡ tableBytes ⌝ }
-    ensures { λ r. ⌜ r ≡ handSound (abs (now (b .entry))) (handOf (number (now (b .entry)) handAt)) ⌝ }
+    ensures { λ r. ⌜ r ≡ handSound (abs (now (b .entry))) (handOf hand) ⌝ }
 {
-    let hand = get_table(b).hand;
     if hand == 0 {
         return true;
     }
     let s = hand - 1;
     if s < Table::SESSIONS {
-        is_waiting(b, SessionNumber(s))
+        get_head(b, SessionNumber(s)).is_waiting()
     } else {
         false
     }
@@ -176,9 +143,10 @@ pub fn is_sound(b: &[u8]) -> bool
     if b.len() != Table::SIZE {
         return false;
     }
-    if limits_are_sound(b) {
-        if slots_are_sound(b) {
-            hand_is_sound(b)
+    let t = get_table(b);
+    if limits_are_sound(t) {
+        if slots_are_sound(b, t) {
+            hand_is_sound(b, t.hand)
         } else {
             false
         }

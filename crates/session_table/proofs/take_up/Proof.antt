@@ -16,7 +16,8 @@ get-table-requires c κs = sound-size _ (sym (c .before .before .is-sound .ensur
 
 take-up-next-requires : tie.Need-take-up-next-requires
 unfolding tableOf
-take-up-next-requires c κs = (sym (c .before .before .before .before .before .is-sound .ensures) ∙ c .before .before .before .before .if1 .taken, sym (ap (λ x. x .hand) (c .before .before .get-table .ensures)) ∙ c .before .if2 .taken)
+take-up-next-requires c κs = (sym (c .before .before .before .before .before .is-sound .ensures) ∙ c .before .before .before .before .if1 .taken, sym
+    (ap (λ x. x .hand) (c .before .before .get-table .ensures)) ∙ c .before .if2 .taken)
 
 same-length : tie.Need-same-length
 same-length c = search needs
@@ -29,14 +30,21 @@ sub-t14 c = search needs
 
 given-requires : tie.Need-given-requires
 unfolding tableOf
-given-requires c κs = let sound = sym (c .before .before .before .before .before .is-sound .ensures) ∙ c .before .before .before .before .if1 .taken in let hand = ap (λ x. x .hand) (c .before .before .get-table .ensures) in let left = c .before .if2 .left in let ok = take-up-passes _ 0 (take-up-again _ sound (λ z. left (hand ∙ z))) refl in (sound, again-waits _ ok _ hand left)
+given-requires c κs = let sound =
+    sym (c .before .before .before .before .before .is-sound .ensures) ∙ c .before .before .before .before .if1 .taken in let hand = ap (λ x. x .hand)
+    (c .before .before .get-table .ensures) in let left = c .before .if2 .left in
+    let ok = take-up-passes _ 0 (take-up-again _ sound (λ z. left (hand ∙ z))) refl in (sound, again-waits _ ok _ hand left)
 
 same-length-2 : tie.Need-same-length-2
 same-length-2 c = search needs
 
 returns-2 : tie.Need-returns-2
 unfolding tableOf
-returns-2 c = let sound = sym (c .before .before .before .before .before .before .is-sound .ensures) ∙ c .before .before .before .before .before .if1 .taken in let hand = ap (λ x. x .hand) (c .before .before .before .get-table .ensures) in let left = c .before .before .if2 .left in let ok = take-up-passes _ 0 (take-up-again _ sound (λ z. left (hand ∙ z))) refl in (c .given .ensures ∙ again-done _ ok _ hand left, again-leaves _ ok _ hand left)
+returns-2 c = let sound =
+    sym (c .before .before .before .before .before .before .is-sound .ensures) ∙ c .before .before .before .before .before .if1 .taken in let hand = ap
+    (λ x. x .hand) (c .before .before .before .get-table .ensures) in let left = c .before .before .if2 .left in
+    let ok = take-up-passes _ 0 (take-up-again _ sound (λ z. left (hand ∙ z))) refl in
+    (c .given .ensures ∙ again-done _ ok _ hand left, again-leaves _ ok _ hand left)
 
 plain-requires : tie.Need-plain-requires
 plain-requires c κs = search needs

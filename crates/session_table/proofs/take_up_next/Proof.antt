@@ -23,10 +23,16 @@ same-length : tie.Need-same-length
 same-length c = search needs
 
 returns : tie.Need-returns
-returns c = take-up-refuses _ _ (take-up-14 _ (c .before .before .before .before .before .before .pre .0) (c .before .before .before .before .before .before .pre .1) (found-none _ _ (c .before .before .before .next-waiting .ensures) (c .before .enum-told .given .1))) _ (c .plain .ensures) (λ z. omega arith)
+returns c =
+    take-up-refuses _ _ (take-up-14 _ (c .before .before .before .before .before .before .pre .0)
+    (c .before .before .before .before .before .before .pre .1)
+    (found-none _ _ (c .before .before .before .next-waiting .ensures) (c .before .enum-told .given .1))) _ (c .plain .ensures) (λ z. omega arith)
 
 take-up-at-requires : tie.Need-take-up-at-requires
-take-up-at-requires c κs = let (ok, waits, gives) = take-up-0 _ (c .before .before .before .before .before .before .before .pre .0) (c .before .before .before .before .before .before .before .pre .1) _ (found-at _ _ (c .before .before .before .before .next-waiting .ensures) _ (c .before .before .s .given .1)) in (ok, c .before .before .before .before .before .before .before .pre .1, waits, gives)
+take-up-at-requires c κs = let (ok, waits, gives) =
+    take-up-0 _ (c .before .before .before .before .before .before .before .pre .0) (c .before .before .before .before .before .before .before .pre .1) _
+    (found-at _ _ (c .before .before .before .before .next-waiting .ensures) _ (c .before .before .s .given .1)) in
+    (ok, c .before .before .before .before .before .before .before .pre .1, waits, gives)
 
 same-length-2 : tie.Need-same-length-2
 same-length-2 c = search needs
@@ -35,4 +41,5 @@ returns-2 : tie.Need-returns-2
 returns-2 c = search needs
 
 pub take-up-next-spec : {M : Type 1} → statement M
-take-up-next-spec = tie.close (tie.spec next-waiting-requires enum-known-s enum-told plain-requires same-length returns take-up-at-requires same-length-2 returns-2)
+take-up-next-spec =
+    tie.close (tie.spec next-waiting-requires enum-known-s enum-told plain-requires same-length returns take-up-at-requires same-length-2 returns-2)

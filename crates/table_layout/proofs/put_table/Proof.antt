@@ -1,4 +1,4 @@
-use Rattle.table_layout.specs.Layout.{putTable}
+use Rattle.table_layout.specs.Layout.{putTable, putRow}
 use borrow.Author.Needs.{needs}
 use Rattle.table_layout.proofs.put_table.Statement.{statement}
 use Rattle.table_layout.proofs.put_table.Tie as tie
@@ -19,7 +19,7 @@ same-length : tie.Need-same-length
 same-length c = search needs
 
 returns : tie.Need-returns
-unfolding putTable
+unfolding putTable putRow
 returns c = cc
 
 pub put-table-spec : {M : Type 1} → statement M

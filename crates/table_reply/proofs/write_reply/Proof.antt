@@ -24,7 +24,10 @@ get-entry-requires : tie.Need-get-entry-requires Inv-loop μ-loop
 get-entry-requires c κs = search needs
 
 put-answer-requires : tie.Need-put-answer-requires Inv-loop μ-loop
-put-answer-requires c κs = next-fits _ _ _ _ _ _ _ (c .get-entry .ensures) (c .before .before .loop-test .taken) (c .before .before .before .before .before .before .pre .2) (c .before .before .before .before .before .before .pre .3) (omega (arith, c .before .before .before .loop .inv .1 .next)) (omega (arith, wrote-length (c .before .before .before .loop .inv .1), c .before .before .before .before .before .before .pre .4))
+put-answer-requires c κs =
+    next-fits _ _ _ _ _ _ _ (c .get-entry .ensures) (c .before .before .loop-test .taken) (c .before .before .before .before .before .before .pre .2)
+    (c .before .before .before .before .before .before .pre .3) (omega (arith, c .before .before .before .loop .inv .1 .next))
+    (omega (arith, wrote-length (c .before .before .before .loop .inv .1), c .before .before .before .before .before .before .pre .4))
 
 add-i : tie.Need-add-i Inv-loop μ-loop
 add-i c = omega arith
@@ -33,7 +36,8 @@ loop-less : tie.Need-loop-less Inv-loop μ-loop
 loop-less c = omega arith
 
 loop-again : tie.Need-loop-again Inv-loop μ-loop
-loop-again c = (omega arith, wrote-more _ _ _ _ _ _ (c .before .before .before .get-entry .ensures) (c .before .before .before .before .before .before .loop .inv .1) (c .before .before .put-answer .ensures))
+loop-again c = (omega arith, wrote-more _ _ _ _ _ _ (c .before .before .before .get-entry .ensures)
+    (c .before .before .before .before .before .before .loop .inv .1) (c .before .before .put-answer .ensures))
 
 same-length : tie.Need-same-length Inv-loop μ-loop
 same-length c = wrote-length (c .before .loop .inv .1)

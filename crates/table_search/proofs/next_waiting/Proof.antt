@@ -1,14 +1,16 @@
-use Rattle.table_search.proofs.Tests.{waiting-in-turn, turned-at}
 use Prim.Native.Nat.{_-_, _≤_}
 use mathlib.Core.Path.{_≡_, ap, sym}
 use native.Mathlib.Omega.{arith}
 use borrow.Author.Needs.{needs}
 use Rattle.sessions.specs.Find.{none, find}
-use Rattle.sessions.specs.Table.{isWaiting, turn}
 use Rattle.sessions.proofs.Loops.{find-none, find-more, find-hit, find-end}
+use Rattle.slot.proofs.Told.{asked}
+use Rattle.slot.specs.Fields.{slotOf}
 use Rattle.table_layout.specs.Layout.{number, tableOf}
+use Rattle.sessions.specs.Table.{isWaiting, turn}
 use Rattle.table_search.specs.Search.{turned}
-use Rattle.table_sound.specs.Bytes.{slotOf, abs}
+use Rattle.table_search.proofs.Tests.{waiting-in-turn, turned-at}
+use Rattle.table_sound.specs.Bytes.{abs}
 use Rattle.table_search.proofs.next_waiting.Statement.{statement}
 use Rattle.table_search.proofs.next_waiting.Tie as tie
 
@@ -27,13 +29,25 @@ loop-holds c = (omega arith, c .get-table .ensures, ap (λ x. x .max) (c .get-ta
 
 in-turn-requires : tie.Need-in-turn-requires Inv-loop μ-loop
 unfolding tableOf
-in-turn-requires c κs = let m = ap (λ x. x .mark .0) (c .before .loop .inv .1) in (omega (arith, c .before .before .before .before .pre .mark), omega arith, omega arith)
+in-turn-requires c κs =
+    let m = ap (λ x. x .mark .0) (c .before .loop .inv .1) in
+    (omega (arith, c .before .before .before .before .pre .mark), omega arith, omega arith)
+
+get-head-requires : tie.Need-get-head-requires Inv-loop μ-loop
+get-head-requires c κs = (search needs, omega (arith, c .in-turn .ensures .1, c .before .before .before .before .before .pre .limit))
 
 is-waiting-requires : tie.Need-is-waiting-requires Inv-loop μ-loop
-is-waiting-requires c κs = (search needs, omega (arith, c .in-turn .ensures .1, c .before .before .before .before .before .pre .limit))
+is-waiting-requires c κs = search needs
 
 returns : tie.Need-returns Inv-loop μ-loop
-returns c = turned-at _ _ (c .before .before .before .before .loop .inv .1) _ _ (c .before .before .in-turn .ensures .0) (find-hit _ _ (c .before .before .before .before .loop .inv .3) (waiting-in-turn _ _ (c .before .before .before .before .loop .inv .1) _ _ (c .before .before .in-turn .ensures .0) _ _ (c .before .is-waiting .ensures) (c .if1 .taken)) (omega arith))
+returns c =
+    turned-at _ _ (c .before .before .before .before .before .loop .inv .1) _ _ (c .before .before .before .in-turn .ensures .0)
+    (find-hit _ _ (c .before .before .before .before .before .loop .inv .3)
+    (waiting-in-turn _ _ (c .before .before .before .before .before .loop .inv .1) _ _ (c .before .before .before .in-turn .ensures .0)
+    (asked _ _ _ (c .before .before .get-head .ensures) (omega
+    (arith, c .before .before .before .in-turn .ensures .1, c .before .before .before .before .before .before .before .before .pre .limit)) isWaiting
+    (c .before .is-waiting .ensures) (c .if1 .taken)))
+    (omega arith))
 
 add-i : tie.Need-add-i Inv-loop μ-loop
 add-i c = omega arith
@@ -42,7 +56,13 @@ loop-less : tie.Need-loop-less Inv-loop μ-loop
 loop-less c = omega arith
 
 loop-again : tie.Need-loop-again Inv-loop μ-loop
-loop-again c = (omega arith, c .before .before .before .before .loop .inv .1, c .before .before .before .before .loop .inv .2, find-more _ (c .before .before .before .before .loop .inv .3) (waiting-in-turn _ _ (c .before .before .before .before .loop .inv .1) _ _ (c .before .before .in-turn .ensures .0) _ _ (c .before .is-waiting .ensures) (c .if1 .left)))
+loop-again c =
+    (omega arith, c .before .before .before .before .before .loop .inv .1, c .before .before .before .before .before .loop .inv .2, find-more _
+    (c .before .before .before .before .before .loop .inv .3)
+    (waiting-in-turn _ _ (c .before .before .before .before .before .loop .inv .1) _ _ (c .before .before .before .in-turn .ensures .0)
+    (asked _ _ _ (c .before .before .get-head .ensures) (omega
+    (arith, c .before .before .before .in-turn .ensures .1, c .before .before .before .before .before .before .before .before .pre .limit)) isWaiting
+    (c .before .is-waiting .ensures) (c .if1 .left))))
 
 returns-2 : tie.Need-returns-2 Inv-loop μ-loop
 returns-2 c = sym (ap (turned (abs _)) (find-end _ (c .before .loop .inv .3) (omega arith)))
@@ -56,6 +76,7 @@ next-waiting-spec =
     get-table-requires
     loop-holds
     in-turn-requires
+    get-head-requires
     is-waiting-requires
     returns
     add-i

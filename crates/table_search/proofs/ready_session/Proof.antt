@@ -4,8 +4,9 @@ use native.Mathlib.Omega.{arith}
 use borrow.Author.Needs.{needs}
 use Rattle.sessions.specs.Find.{none, find}
 use Rattle.sessions.proofs.Loops.{find-none, find-more, find-hit, find-end}
+use Rattle.slot.proofs.Told.{asked}
+use Rattle.slot.specs.Fields.{slotOf}
 use Rattle.table_layout.specs.Layout.{number, tableOf}
-use Rattle.table_sound.specs.Bytes.{slotOf}
 use Rattle.sessions.specs.Table.{isReady}
 use Rattle.table_search.proofs.ready_session.Statement.{statement}
 use Rattle.table_search.proofs.ready_session.Tie as tie
@@ -23,11 +24,18 @@ loop-holds : tie.Need-loop-holds Inv-loop μ-loop
 unfolding tableOf
 loop-holds c = (omega arith, ap (λ x. x .max) (c .get-table .ensures), find-none _)
 
+get-head-requires : tie.Need-get-head-requires Inv-loop μ-loop
+get-head-requires c κs = search needs
+
 is-ready-requires : tie.Need-is-ready-requires Inv-loop μ-loop
 is-ready-requires c κs = search needs
 
 returns : tie.Need-returns Inv-loop μ-loop
-returns c = sym (find-hit _ _ (c .before .before .before .loop .inv .2) (cc) (omega arith))
+returns c =
+    sym (find-hit _ _ (c .before .before .before .before .loop .inv .2)
+    (asked _ _ _ (c .before .before .get-head .ensures) (omega (arith, c .before .before .before .before .before .before .before .pre .limit)) (isReady _ _)
+    (c .before .is-ready .ensures) (c .if1 .taken))
+    (omega arith))
 
 add-s : tie.Need-add-s Inv-loop μ-loop
 add-s c = omega arith
@@ -36,7 +44,10 @@ loop-less : tie.Need-loop-less Inv-loop μ-loop
 loop-less c = omega arith
 
 loop-again : tie.Need-loop-again Inv-loop μ-loop
-loop-again c = (omega arith, c .before .before .before .loop .inv .1, find-more _ (c .before .before .before .loop .inv .2) (cc))
+loop-again c =
+    (omega arith, c .before .before .before .before .loop .inv .1, find-more _ (c .before .before .before .before .loop .inv .2)
+    (asked _ _ _ (c .before .before .get-head .ensures) (omega (arith, c .before .before .before .before .before .before .before .pre .limit)) (isReady _ _)
+    (c .before .is-ready .ensures) (c .if1 .left)))
 
 returns-2 : tie.Need-returns-2 Inv-loop μ-loop
 returns-2 c = sym (find-end _ (c .before .loop .inv .2) (omega arith))
@@ -49,6 +60,7 @@ ready-session-spec =
     μ-loop
     get-table-requires
     loop-holds
+    get-head-requires
     is-ready-requires
     returns
     add-s

@@ -5,13 +5,13 @@ use native.Mathlib.Omega.{arith}
 use borrow.Author.Needs.{needs}
 use Rattle.sessions.specs.Find.{all}
 use Rattle.sessions.proofs.Loops.{all-none, all-more, all-fails, all-end}
-use Rattle.sessions.specs.Sound.{isReal}
-use Rattle.table_layout.specs.Layout.{entryOf}
+use Rattle.sessions.specs.Sound.{inRangeAndReal}
+use Rattle.slot.specs.Fields.{entryOf}
 use Rattle.table_sound.proofs.answers_are_real.Statement.{statement}
 use Rattle.table_sound.proofs.answers_are_real.Tie as tie
 
 abbrev Inv-loop : tie.InvT-loop
-Inv-loop b s n i₀ i = (i ≤ n) × (all i (λ k. isReal (entryOf b (s .0) (k + 1))) ≡ true)
+Inv-loop b s n i₀ i = (i ≤ n) × (all i (λ k. inRangeAndReal (entryOf b (s .0) (k + 1))) ≡ true)
 
 abbrev μ-loop : tie.MeasureT-loop
 μ-loop b s n i₀ i = n - i
@@ -25,8 +25,8 @@ add-t8 c = omega arith
 get-entry-requires : tie.Need-get-entry-requires Inv-loop μ-loop
 get-entry-requires c κs = search needs
 
-is-real-requires : tie.Need-is-real-requires Inv-loop μ-loop
-is-real-requires c κs = search needs
+in-range-and-real-requires : tie.Need-in-range-and-real-requires Inv-loop μ-loop
+in-range-and-real-requires c κs = search needs
 
 add-i : tie.Need-add-i Inv-loop μ-loop
 add-i c = omega arith
@@ -52,7 +52,7 @@ answers-are-real-spec =
     loop-holds
     add-t8
     get-entry-requires
-    is-real-requires
+    in-range-and-real-requires
     add-i
     loop-less
     loop-again

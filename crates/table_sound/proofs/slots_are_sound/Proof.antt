@@ -1,27 +1,49 @@
 use Prim.Native.Nat.{_-_, _≤_}
-use mathlib.Core.Path.{_≡_, sym}
+use mathlib.Core.Path.{_≡_, refl, sym}
 use mathlib.Core.Bool.{true}
 use native.Mathlib.Omega.{arith}
+use lib.ListN.{length, length-set}
 use borrow.Author.Needs.{needs}
-use Rattle.sessions.specs.Find.{all}
-use Rattle.sessions.proofs.Loops.{all-none, all-more, all-fails, all-end}
-use Rattle.table_sound.specs.Bytes.{slotOf, abs}
 use Rattle.counts.specs.Limits.{sessions}
+use Rattle.sessions.specs.Find.{all}
 use Rattle.sessions.specs.Sound.{slotSound}
+use Rattle.sessions.proofs.Loops.{all-none, all-more, all-fails, all-end}
+use Rattle.slot.specs.Fields.{slotOf}
+use Rattle.table_sound.specs.Bytes.{abs, Seen}
+use Rattle.table_sound.proofs.Slots.{seen-none, seen-more}
 use Rattle.table_sound.proofs.slots_are_sound.Statement.{statement}
 use Rattle.table_sound.proofs.slots_are_sound.Tie as tie
 
 abbrev Inv-loop : tie.InvT-loop
-Inv-loop b s₀ s = (s ≤ sessions) × (all s (λ i. slotSound (abs b) i (slotOf b i)) ≡ true)
+Inv-loop b t seen₀ s₀ seen s = (s ≤ sessions) × (length seen ≡ sessions) × Seen b s seen × (all s (λ i. slotSound (abs b) i (slotOf b i)) ≡ true)
 
 abbrev μ-loop : tie.MeasureT-loop
-μ-loop b s₀ s = sessions - s
+μ-loop b t seen₀ s₀ seen s = sessions - s
 
 loop-holds : tie.Need-loop-holds Inv-loop μ-loop
-loop-holds c = (omega arith, all-none _)
+loop-holds c = (omega arith, refl, seen-none _ _, all-none _)
+
+get-head-requires : tie.Need-get-head-requires Inv-loop μ-loop
+get-head-requires c κs = search needs
+
+slice-aggregate-slot-is-sound : tie.Need-slice-aggregate-slot-is-sound Inv-loop μ-loop
+slice-aggregate-slot-is-sound c = search needs
 
 slot-is-sound-requires : tie.Need-slot-is-sound-requires Inv-loop μ-loop
-slot-is-sound-requires c κs = search needs
+slot-is-sound-requires c κs = (search needs, omega arith, c .before .before .before .before .before .pre .1, c .before .get-head .ensures,
+    c .before .before .before .loop .inv .2)
+
+ticket-held-requires : tie.Need-ticket-held-requires Inv-loop μ-loop
+ticket-held-requires c κs = search needs
+
+cast-seen : tie.Need-cast-seen Inv-loop μ-loop
+cast-seen c = search needs
+
+mul-seen : tie.Need-mul-seen Inv-loop μ-loop
+mul-seen c = search needs
+
+array-write-seen : tie.Need-array-write-seen Inv-loop μ-loop
+array-write-seen c = omega arith
 
 add-s : tie.Need-add-s Inv-loop μ-loop
 add-s c = omega arith
@@ -30,13 +52,15 @@ loop-less : tie.Need-loop-less Inv-loop μ-loop
 loop-less c = omega arith
 
 loop-again : tie.Need-loop-again Inv-loop μ-loop
-loop-again c = (omega arith, all-more _ (c .before .before .before .loop .inv .1) (cc))
+loop-again c = (omega arith, rw length-set (c .before .before .before .before .before .before .loop .inv .1), seen-more _ _ _ _ _ (omega arith)
+    (omega arith) (c .before .before .before .before .get-head .ensures) (c .ticket-held .ensures)
+    (c .before .before .before .before .before .before .loop .inv .2), all-more _ (c .before .before .before .before .before .before .loop .inv .3) (cc))
 
 returns : tie.Need-returns Inv-loop μ-loop
-returns c = sym (all-fails _ _ (c .before .before .loop-test .taken) (cc))
+returns c = sym (all-fails _ _ (c .before .before .before .before .loop-test .taken) (cc))
 
 returns-2 : tie.Need-returns-2 Inv-loop μ-loop
-returns-2 c = sym (all-end _ (c .before .loop .inv .1) (omega arith))
+returns-2 c = sym (all-end _ (c .before .loop .inv .3) (omega arith))
 
 pub slots-are-sound-spec : {M : Type 1} → statement M
 slots-are-sound-spec =
@@ -45,7 +69,13 @@ slots-are-sound-spec =
     Inv-loop
     μ-loop
     loop-holds
+    get-head-requires
+    slice-aggregate-slot-is-sound
     slot-is-sound-requires
+    ticket-held-requires
+    cast-seen
+    mul-seen
+    array-write-seen
     add-s
     loop-less
     loop-again
