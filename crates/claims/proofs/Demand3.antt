@@ -71,26 +71,24 @@ served start begins cs kept b holds =
     record {
       always-sound = holds .sound;
       never-13 = λ c. ap (refusedWith unsound) (same c) ∙ not-13 (did σ making c);
-      reply-is-yours = λ p t n out exit later earlier e. without-bytes.reply-is-yours making start begins cs kept later earlier p t out n exit e;
+      reply-is-yours = without-bytes.reply-is-yours making start begins cs kept;
       record-in-place = λ t c a later earlier e.
-          let r = without-bytes.accepted-in-range making start begins cs kept later earlier t c a tt e in
-          let k = ap (accepted t) e ∙ accepted-at t c a tt later earlier in
+          let r = without-bytes.accepted-in-range making start begins cs kept t c a later earlier e in
+          let k = ap (accepted t) e ∙ accepted-at t c a later earlier in
           rw (k, in-place (accepted t earlier) (accepted t later) c a) (says c a (r .0) (r .1) (r .2));
       collect-answers-what-is-owed = λ p t out. same (toCollect p t out) ∙ without-bytes.collect-answers-what-is-owed making start begins cs kept p t out;
       answers-in-order = without-bytes.answers-in-order making start begins cs kept;
-      each-is-answered = λ p n s t later earlier e a newer older q.
-          without-bytes.each-is-answered making start begins cs kept later earlier p n s t e newer older a tt q;
+      each-is-answered = without-bytes.each-is-answered making start begins cs kept;
       reply-is-there = λ p n s t later earlier e a newer older q f out.
-          same (toCollect p t out) ∙ without-bytes.reply-is-there making start begins cs kept later earlier p n s t e newer older a tt q out f;
-      reply-stays = λ p n s t later earlier e newer older q l.
-          without-bytes.reply-stays making start begins cs kept later earlier p n s t e newer older q l;
+          same (toCollect p t out) ∙ without-bytes.reply-is-there making start begins cs kept p n s t later earlier e a newer older q f out;
+      reply-stays = without-bytes.reply-stays making start begins cs kept;
       is-given = λ t s p n e l. let x = unanswered-is-given making σ h now t s p n e l in (x .0, same toTakeUp ∙ x .1);
       is-accepted = λ s t c a e real.
           does _ _ (does b σ holds toTakeUp .leaves) (toAnswer t c a) .answers ∙ taken-is-answered making σ s t c a (sym (same toTakeUp) ∙ e) real;
       never-again = λ p t n out exit later earlier e.
-          refuses-alike KeptAs stepBytes (stepTable making) same t (without-bytes.never-again making start begins cs kept later earlier p t out n exit e);
+          refuses-alike KeptAs stepBytes (stepTable making) same t (without-bytes.never-again making start begins cs kept p t n out exit later earlier e);
       number-is-held = λ p n s t later earlier e f q m u g.
-          without-bytes.number-is-held making start begins cs kept later earlier p n s t e q m u f (sym (same (toPlace q m)) ∙ g);
+          without-bytes.number-is-held making start begins cs kept p n s t later earlier e f q m u (sym (same (toPlace q m)) ∙ g);
     }
 
 pub demand-3 : Demand3 freshBytes stepBytes

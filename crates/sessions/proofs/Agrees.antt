@@ -61,8 +61,7 @@ module _ (σ : State) (h : List Event) (ok : Sound σ) (A : Stands σ h) where
       let x = is-session σ ok (λ x. x .count) refl s (omega arith) in
       ⊎-elim
       (λ (q : t ≡ u). rw (eq-eqb _ _ q, ← (w .command))
-      (its-answer (σ .last) (σ .slot) u _ _ _ s (w .ticket ∙ q) (omega (arith, w .ticket, x .ticket-low)) (omega (arith, w .ticket, x .ticket-high))
-      (λ i k. sym (ok .distinct s i (x .ticket-low) (w .ticket ∙ q ∙ sym k))) a (A u)))
+      (its-answer (σ .last) (σ .slot) u _ _ _ s (w .ticket ∙ q) (x .ticket-low) (x .ticket-high) (λ i. ok .distinct s i (x .ticket-low)) a (A u)))
       (λ (d : t ≡ u → ⊥). rw (ne-eqb _ _ d)
       (apart (σ .last) (σ .slot) u _ _ _ s (σ .last) _ (omega arith) (λ k f. d (sym (w .ticket) ∙ f)) (λ k f. d (sym (w .ticket) ∙ f)) (A u)))
       (either t u)
@@ -70,8 +69,8 @@ module _ (σ : State) (h : List Event) (ok : Sound σ) (A : Stands σ h) where
       let x = is-session σ ok (λ x. x .program) refl s (omega (arith, w .program, w .program-low)) in
       ⊎-elim
       (λ (q : t ≡ u). rw (eq-eqb _ _ q, ← (w .program))
-      (its-collection (σ .last) (σ .slot) u _ _ _ s (w .ticket ∙ q) (omega (arith, w .ticket, x .ticket-low)) (omega (arith, w .ticket, x .ticket-high))
-      (λ i k. sym (ok .distinct s i (x .ticket-low) (w .ticket ∙ q ∙ sym k))) (w .closed) (A u)))
+      (its-collection (σ .last) (σ .slot) u _ _ _ s (w .ticket ∙ q) (x .ticket-low) (x .ticket-high) (λ i. ok .distinct s i (x .ticket-low))
+      (w .closed) (A u)))
       (λ (d : t ≡ u → ⊥). rw (ne-eqb _ _ d)
       (apart (σ .last) (σ .slot) u _ _ _ s (σ .last) _ (omega arith) (λ k f. d (sym (w .ticket) ∙ f)) (λ k f. omega arith) (A u)))
       (either t u)

@@ -1,6 +1,6 @@
 -- What a collection answers at any moment of a history, by the table that agrees with it: what the history owes.
 use Prim.Native.Nat.{ℕ, suc, _≤_, _<_}
-use mathlib.Core.Path.{_≡_, refl, _∙_, ap, sym}
+use mathlib.Core.Path.{_≡_, refl, ap}
 use mathlib.Core.Bool.{Bool, true, false, cond, and-true}
 use mathlib.Core.List.{List, [], _∷_}
 use native.Mathlib.Omega.{arith}
@@ -35,8 +35,8 @@ module _ (σ : State) (h : List Event) (A : Agrees σ h) where
   -- the history of the ticket that stands at s
   standing-at : (s : ℕ) → 1 ≤ σ .slot s .ticket → (t : ℕ) → σ .slot s .ticket ≡ t → Held t (placings t h) (accepted t h) (collections t h) s (σ .slot s)
   standing-at s l t e =
-      held-at (σ .last) (σ .slot) t _ _ _ s e (omega arith) (omega (arith, is-session σ (A .sound) (λ x. x .ticket) refl s l .ticket-high))
-      (λ i k. sym (A .sound .distinct s i l (e ∙ sym k))) (A .standing t)
+      let x = is-session σ (A .sound) (λ x. x .ticket) refl s l in
+      held-at (σ .last) (σ .slot) t _ _ _ s e l (x .ticket-high) (λ i. A .sound .distinct s i l) (A .standing t)
 
   module _ (p t room : ℕ) (r : within 1 p programs ≡ true) where
     -- nobody is ready: nothing is owed

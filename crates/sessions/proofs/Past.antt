@@ -29,8 +29,8 @@ accepted-append t (answered u c a (refused k i) ∷ l) h = accepted-append t l h
 accepted-append t (collected p u out r exit ∷ l) h = accepted-append t l h
 
 -- an answer stands after those accepted before it
-pub accepted-at : (t c : ℕ) (a : Answer) (r : Unit {0}) (l h : List Event)
-    → accepted t (l ++ (answered t c a (done r) ∷ h)) ≡ accepted t h ++ ((c, a) ∷ accepted t l)
+pub accepted-at : (t c : ℕ) (a : Answer) (l h : List Event)
+    → accepted t (l ++ (answered t c a (done tt) ∷ h)) ≡ accepted t h ++ ((c, a) ∷ accepted t l)
 unfolding accepted
-accepted-at t c a r l h =
-    accepted-append t l (answered t c a (done r) ∷ h) ∙ rw (eq-eqb t t refl) (append-assoc (accepted t h) ((c, a) ∷ []) (accepted t l))
+accepted-at t c a l h =
+    accepted-append t l (answered t c a (done tt) ∷ h) ∙ rw (eq-eqb t t refl) (append-assoc (accepted t h) ((c, a) ∷ []) (accepted t l))

@@ -62,11 +62,12 @@ module _ (last : ℕ) (slot : ℕ → Session) (t : ℕ) (ps : List (ℕ × ℕ 
   its-placing p n e b (held i y q w) = let k : slot i .ticket ≡ t = rw q (w .its-ticket) in absurd (omega (arith, b i))
   its-placing p n e b (gone i y k d w) = absurd (omega arith)
 
-  module _ (here : slot s .ticket ≡ t) (low : 1 ≤ t) (high : t ≤ last) (distinct : (i : ℕ) → slot i .ticket ≡ t → i ≡ s) where
+  module _ (here : slot s .ticket ≡ t) (low : 1 ≤ slot s .ticket) (high : slot s .ticket ≤ last)
+      (distinct : (i : ℕ) → slot s .ticket ≡ slot i .ticket → s ≡ i) where
     -- a ticket that stands at s is held there
     pub held-at : Standing last slot t ps qs rs → Held t ps qs rs s (slot s)
-    held-at (new d w) = absurd (d low s here)
-    held-at (held i y q w) = let k : i ≡ s = distinct i (rw q (w .its-ticket)) in rw (← k, q) w
+    held-at (new d w) = absurd (d (omega arith) s here)
+    held-at (held i y q w) = let k : s ≡ i = distinct i (here ∙ sym (ap (λ x. x .ticket) q ∙ w .its-ticket)) in rw (k, q) w
     held-at (gone i y k d w) = absurd (d s here)
 
     -- an answer to the session at s
@@ -76,7 +77,7 @@ module _ (last : ℕ) (slot : ℕ → Session) (t : ℕ) (ps : List (ℕ × ℕ 
         let h = held-at w in
         held s (withAnswer (slot s) a) (replaced-same slot s (withAnswer (slot s) a))
         (record {
-          ticket-low = low;
+          ticket-low = omega arith;
           its-ticket = here;
           one-placing = h .one-placing;
           its-answers = rw (h .its-answers, numbered-more, add-comm 1 (length (slot s .answers)));
@@ -88,5 +89,5 @@ module _ (last : ℕ) (slot : ℕ → Session) (t : ℕ) (ps : List (ℕ × ℕ 
         → Standing last (replaced slot s noSession) t ps qs (slot s .program ∷ rs)
     its-collection all w =
         let h = held-at w in
-        gone s (slot s) high (replaced-all slot s noSession (λ i y. y .ticket ≡ t → ⊥) (λ e. omega arith) (λ i n e. n (distinct i e)))
-        (record { ticket-low = low; one-placing = h .one-placing; its-answers = h .its-answers; all-answered = all; one-reply = rw (h .no-reply) })
+        gone s (slot s) (omega arith) (replaced-all slot s noSession (λ i y. y .ticket ≡ t → ⊥) (λ e. omega arith) (λ i n e. n (sym (distinct i (here ∙ sym e)))))
+        (record { ticket-low = omega arith; one-placing = h .one-placing; its-answers = h .its-answers; all-answered = all; one-reply = rw (h .no-reply) })
