@@ -1,4 +1,4 @@
--- `statement::unexpected` meets its contract. Assumes nothing.
+-- `statement::unexpected` meets its contract.
 use Rattle.laws.proofs.Choose.{choose}
 use borrow.Author.Needs.{needs}
 use Rattle.statement.proofs.unexpected.Statement.{statement}
