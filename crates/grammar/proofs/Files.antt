@@ -1,5 +1,5 @@
 -- The reader takes the legal files, with their offsets, and no others.
-use mathlib.Core.Path.{_≡_, refl, sym, _∙_, ap, subst₂}
+use mathlib.Core.Path.{_≡_, sym, _∙_, ap, subst}
 use mathlib.Core.Bool.{true, false, true≢false}
 use mathlib.Core.List.{List, [], _∷_, _++_, append-assoc, append-nil}
 use Prim.Native.Nat.{ℕ, _≤_, _<_}
@@ -11,7 +11,7 @@ use Rattle.counts.specs.Limits.{statements}
 use Rattle.grammar.specs.Grammar.{Class, Point, step, walk, isPoint}
 use Rattle.grammar.specs.Grammar.Point.{first, between, done, dead}
 use Rattle.grammar.specs.Statement.{Statement}
-use Rattle.grammar.specs.Productions.{Placed, classes, Job, Other, Ended, Others, File, Legal}
+use Rattle.grammar.specs.Productions.{Placed, classes, Others, File, Legal}
 use Rattle.grammar.specs.Productions.Others.{none, more}
 use Rattle.grammar.specs.Productions.File.{file}
 use Rattle.grammar.specs.Reading.{State, opening, move, moves}
@@ -61,50 +61,36 @@ file-read (file {t = t} {a = a} {b = b} {os = os} e r) l =
     ∙ ap (λ (s : State). moves s b) (one t a [] (omega arith) (job-walks e))
     ∙ others-read r (t .place) [] l
 
--- reader to productions: the tokens l, read from the point q on, are the rest of a statement, then statements
-record Rest (q : Point) (os : List ℕ) (l : List Placed) (all : List ℕ) : Type 0 where
-  open-part : List Placed
-  after : List Placed
-  begun : List ℕ
-  read : List Statement
-  parts : l ≡ open-part ++ after
-  walked : walk q (classes open-part) ≡ done
-  closed : Others after begun read
-  offsets : all ≡ os ++ begun
+-- reader to productions: the tokens from the point q on are the rest of a statement, and then statements that begin at os
+data Rest (q : Point) : List Placed → List ℕ → Type 0 where
+  rest : (a : List Placed) {b : List Placed} {os : List ℕ} {xs : List Statement} → walk q (classes a) ≡ done → Others b os xs → Rest q (a ++ b) os
 
-rest : (l : List Placed) (q : Point) (o : ℕ) (os all : List ℕ) → moves (on q (o ∷ os)) l ≡ on done all → Rest q (o ∷ os) l all
-rest [] q o os all e =
+longer : {q : Point} {t : Placed} {l : List Placed} {os : List ℕ} → Rest (step q (t .class)) l os → Rest q (t ∷ l) os
+longer {t = t} (rest a w r) = rest (t ∷ a) w r
+
+one-later : {q : Point} {t : Placed} {l : List Placed} {os : List ℕ} → q ≡ done → Rest (step between (t .class)) l os → Rest q (t ∷ l) (t .place ∷ os)
+one-later {t = t} e (rest a w r) = rest [] e (more (walked-other (t ∷ a) w .1) r)
+
+the-first : {t : Placed} {l : List Placed} {os : List ℕ} → Rest (step first (t .class)) l os → (xs : List Statement) × File (t ∷ l) (t .place ∷ os) xs
+the-first {t = t} (rest a w r) = (_, file (walked-job (t ∷ a) w .1) r)
+
+-- what is read from q on, after statements that begin at os
+abbrev Onward : Point → List ℕ → List Placed → List ℕ → Type 0
+Onward q os l all = (begun : List ℕ) × Rest q l begun × all ≡ os ++ begun
+
+onward : (l : List Placed) (q : Point) (o : ℕ) (os all : List ℕ) → moves (on q (o ∷ os)) l ≡ on done all → Onward q (o ∷ os) l all
+onward [] q o os all e =
+    let d : q ≡ done = cc in
     let a : all ≡ o ∷ os = cc in
-    record { open-part = []; after = []; begun = []; read = []; parts = refl; walked = cc; closed = none; offsets = rw append-nil a }
-rest (t ∷ l) q o os all e = go (λ r ps d. rest l r o ps all d) (move (on q (o ∷ os)) t) (moved q (o ∷ os) t) e
+    ([], rest [] d none, rw append-nil a)
+onward (t ∷ l) q o os all e = go (λ r ps d. onward l r o ps all d) (move (on q (o ∷ os)) t) (moved q (o ∷ os) t) e
   where
-    go : ((r : Point) (ps : List ℕ) → moves (on r (o ∷ ps)) l ≡ on done all → Rest r (o ∷ ps) l all) → (s : State) → Moved q (o ∷ os) t s
-        → moves s l ≡ on done all → Rest q (o ∷ os) (t ∷ l) all
-    go later (on r ps) (goes n a) d =
-        let s : Rest (step q (t .class)) (o ∷ os) l all = later (step q (t .class)) os d in
-        record {
-          open-part = t ∷ s .open-part;
-          after = s .after;
-          begun = s .begun;
-          read = s .read;
-          parts = ap (λ (x : List Placed). t ∷ x) (s .parts);
-          walked = s .walked;
-          closed = s .closed;
-          offsets = s .offsets;
-        }
+    go : ((r : Point) (ps : List ℕ) → moves (on r (o ∷ ps)) l ≡ on done all → Onward r (o ∷ ps) l all) → (s : State) → Moved q (o ∷ os) t s
+        → moves s l ≡ on done all → Onward q (o ∷ os) (t ∷ l) all
+    go later (on r ps) (goes n a) d = let (b, s, f) = later (step q (t .class)) os d in (b, longer s, f)
     go later (on r ps) (begins n f a) d =
-        let s : Rest (step between (t .class)) (o ∷ (os ++ (t .place ∷ []))) l all = later (step between (t .class)) (os ++ (t .place ∷ [])) d in
-        let w : (x : Statement) × Ended Other (t ∷ s .open-part) x = walked-other (t ∷ s .open-part) (s .walked) in
-        record {
-          open-part = [];
-          after = t ∷ l;
-          begun = t .place ∷ s .begun;
-          read = w .0 ∷ s .read;
-          parts = refl;
-          walked = n;
-          closed = rw (s .parts) (more (w .1) (s .closed));
-          offsets = s .offsets ∙ rw snoc;
-        }
+        let (b, s, g) = later (step between (t .class)) (os ++ (t .place ∷ [])) d in
+        (t .place ∷ b, one-later n s, g ∙ rw snoc)
     go later (refusedAt n p) m d = absurd (refused≢on (sym (moves-refused n p l) ∙ d))
 
 -- no statement, no file
@@ -123,9 +109,7 @@ read-legal (t ∷ l) o os e =
     go : (s : State) → Moved done [] t s → moves s l ≡ on done (o ∷ os) → (xs : List Statement) × File (t ∷ l) (o ∷ os) xs
     go (on r ps) (goes n a) d = absurd (true≢false n)
     go (on r ps) (begins n f a) d =
-        let s : Rest (step first (t .class)) (t .place ∷ []) l (o ∷ os) = rest l (step first (t .class)) (t .place) [] (o ∷ os) d in
-        let w : (x : Statement) × Ended Job (t ∷ s .open-part) x = walked-job (t ∷ s .open-part) (s .walked) in (
-          w .0 ∷ s .read,
-          subst₂ (λ (m : List Placed) (all : List ℕ). File (t ∷ m) all (w .0 ∷ s .read)) (sym (s .parts)) (sym (s .offsets)) (file (w .1) (s .closed)),
-        )
+        let (b, s, g) = onward l (step first (t .class)) (t .place) [] (o ∷ os) d in
+        let (xs, y) = the-first s in
+        (xs, subst (λ (all : List ℕ). File (t ∷ l) all xs) (sym g) y)
     go (refusedAt n p) m d = absurd (refused≢on (sym (moves-refused n p l) ∙ d))

@@ -1,7 +1,7 @@
 -- The reader gives an answer exactly when document 01 says so: each list of tokens has one verdict, and it is the reader's.
 use mathlib.Core.Path.{_≡_, refl, sym, _∙_, ap}
 use mathlib.Core.Bool.{Bool, true, false, true≢false, cond}
-use mathlib.Core.List.{List, [], _∷_, _++_}
+use mathlib.Core.List.{List, [], _∷_, _++_, append-assoc, append-nil}
 use mathlib.Core.Logic.{_⊎_, inl, inr}
 use Prim.Native.Nat.{ℕ, _≤_}
 use native.Mathlib.Omega.{arith}
@@ -23,42 +23,10 @@ use Rattle.grammar.specs.Reading.State.{on, refusedAt}
 use Rattle.grammar.specs.Rows.{real, Full, MayStand, Stands, Three, FourToken, FourEnd, Five, Six, Whole, Says}
 use Rattle.grammar.specs.Rows.Says.{file as legal, three, four-token, four-end, five, six}
 use Rattle.grammar.proofs.Apart.{is-class, is-point}
-use Rattle.grammar.proofs.Moves.{Moved, moved, moves-append, moves-refused, refused≢on}
+use Rattle.grammar.proofs.Moves.{Moved, moved, moves-append, moves-refused}
 use Rattle.grammar.proofs.Moves.Moved.{full, unreal, never}
 use Rattle.grammar.proofs.Files.{file-read, read-legal}
-use Rattle.grammar.proofs.Viable.{start, on-begins, begins-on, shorter, stands, stands-not}
-
--- where the reader row-of
-record RefusedThere (q : Point) (os : List ℕ) (l : List Placed) (n p : ℕ) : Type 0 where
-  before : List Placed
-  token : Placed
-  after : List Placed
-  point : Point
-  begun : List ℕ
-  parts : l ≡ before ++ (token ∷ after)
-  so-far : moves (on q os) before ≡ on point begun
-  refuses : move (on point begun) token ≡ refusedAt n p
-
-refused-there : (l : List Placed) (q : Point) (os : List ℕ) (n p : ℕ) → moves (on q os) l ≡ refusedAt n p → RefusedThere q os l n p
-refused-there [] q os n p e = absurd (refused≢on (sym e))
-refused-there (t ∷ l) q os n p e = go (λ r ps d. refused-there l r ps n p d) (move (on q os) t) refl e
-  where
-    go : ((r : Point) (ps : List ℕ) → moves (on r ps) l ≡ refusedAt n p → RefusedThere r ps l n p) → (s : State) → move (on q os) t ≡ s
-        → moves s l ≡ refusedAt n p → RefusedThere q os (t ∷ l) n p
-    go later (on r ps) m d =
-        let s : RefusedThere r ps l n p = later r ps d in
-        record {
-          before = t ∷ s .before;
-          token = s .token;
-          after = s .after;
-          point = s .point;
-          begun = s .begun;
-          parts = ap (λ (x : List Placed). t ∷ x) (s .parts);
-          so-far = ap (λ (x : State). moves x (s .before)) m ∙ s .so-far;
-          refuses = s .refuses;
-        }
-    go later (refusedAt k r) m d =
-        record { before = []; token = t; after = l; point = q; begun = os; parts = refl; so-far = refl; refuses = m ∙ sym (moves-refused k r l) ∙ d }
+use Rattle.grammar.proofs.Viable.{start, on-begins, begins-on, shorter, one-more, stands, stands-not}
 
 all-there : (a : List Placed) (os : List ℕ) → moves start a ≡ on done os → statements ≤ length os → Full a
 all-there a [] e l = absurd (omega arith)
@@ -144,20 +112,22 @@ ended : (ts : List Placed) (p : ℕ) (q : Point) (o : ℕ) (os : List ℕ) → m
 ended ts p q o os e true d = legal (p, refl, read-legal ts o os (e ∙ ap (λ (r : Point). on r (o ∷ os)) (is-point q done d)))
 ended ts p q o os e false d = four-end (on-begins ts q (o ∷ os) e, refl, not-open ts q (o ∷ os) e d)
 
-says : (ts : List Placed) (z : Last) (s : State) → moves start ts ≡ s → Says ts z (close s z)
-says ts z (refusedAt n p) e =
-    let s : RefusedThere done [] ts n p = refused-there ts done [] n p e in
-    rw (s .parts)
-    (row-of (s .before) (s .token) (s .after) z (s .point) (s .begun) (s .so-far) n p
-    (rw (s .refuses) at (moved (s .point) (s .begun) (s .token))) (s .refuses))
-says ts (noTokenAt why p) (on q os) e = three (on-begins ts q os e, (why, refl))
-says ts (end p) (on q []) e = four-end (on-begins ts q [] e, refl, not-empty ts q e)
-says ts (end p) (on q (o ∷ os)) e = ended ts p q o os e (isPoint q done) refl
+-- the tokens ts after the tokens a
+says : (ts : List Placed) (z : Last) (a : List Placed) (q : Point) (os : List ℕ) → moves start a ≡ on q os → Says (a ++ ts) z (close (moves (on q os) ts) z)
+says [] (noTokenAt why p) a q os e = rw (append-nil a) (three (on-begins a q os e, (why, refl)))
+says [] (end p) a q [] e = rw (append-nil a) (four-end (on-begins a q [] e, refl, not-empty a q e))
+says [] (end p) a q (o ∷ os) e = rw (append-nil a) (ended a p q o os e (isPoint q done) refl)
+says (t ∷ ts) z a q os e = go (λ r ps d. says ts z (a ++ (t ∷ [])) r ps d) (move (on q os) t) (moved q os t) refl
+  where
+    go : ((r : Point) (ps : List ℕ) → moves start (a ++ (t ∷ [])) ≡ on r ps → Says ((a ++ (t ∷ [])) ++ ts) z (close (moves (on r ps) ts) z))
+        → (s : State) → Moved q os t s → move (on q os) t ≡ s → Says (a ++ (t ∷ ts)) z (close (moves s ts) z)
+    go later (on r ps) m w = rw (append-assoc a (t ∷ []) ts) at (later r ps (one-more a t q os e ∙ w))
+    go later (refusedAt n p) m w = rw (moves-refused n p ts) (row-of a t ts z q os e n p m w)
 
 -- the reader's answer is what 01 says
 pub reader-says : (ts : List Placed) (z : Last) → Says ts z (read ts z)
 unfolding read
-reader-says ts z = says ts z (moves start ts) refl
+reader-says ts z = says ts z [] done [] refl
 
 taken-read : (ts : List Placed) (os : List ℕ) (p : ℕ) → Legal ts os → close (moves start ts) (end p) ≡ taken os
 taken-read ts os p l =
@@ -199,7 +169,8 @@ module _ (ts : List Placed) (z : Last) (p : ℕ) where
   four-token-is : FourToken ts p → read ts z ≡ refused unexpected p
   four-token-is (a, t, h, before, not, nor, few) =
       let s : (q : Point) × (os : List ℕ) × moves start a ≡ on q os = begins-on a before in
-      refused-is a t h (s .0) (s .1) (s .2) unexpected (token-refused a t (s .0) (s .1) (s .2) not nor few (move (on (s .0) (s .1)) t) (moved (s .0) (s .1) t) refl)
+      refused-is a t h (s .0) (s .1) (s .2) unexpected
+      (token-refused a t (s .0) (s .1) (s .2) not nor few (move (on (s .0) (s .1)) t) (moved (s .0) (s .1) t) refl)
 
   five-is : Five ts p → read ts z ≡ refused notReal p
   five-is (a, t, h, may, not) =

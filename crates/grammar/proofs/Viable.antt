@@ -68,7 +68,7 @@ shorter a r b = (r ++ b .0, b .1, rw append-assoc at (b .2))
 
 -- one token more
 module _ (a : List Placed) (t : Placed) (q : Point) (os : List ℕ) (e : moves start a ≡ on q os) where
-  one-more : moves start (a ++ (t ∷ [])) ≡ move (on q os) t
+  pub one-more : moves start (a ++ (t ∷ [])) ≡ move (on q os) t
   one-more = moves-append start a (t ∷ []) ∙ ap (λ (s : State). move s t) e
 
   pub stands : (r : Point) (ps : List ℕ) → move (on q os) t ≡ on r ps → MayStand a t

@@ -85,7 +85,9 @@ module _ (s : List ℕ) (at : ℕ) where
           → Verdict (ends (cond a (cond b (statementIn at (drop at s)) (refused outOfRange 0)) (refused fileTooLong 0)))
       go false e b f = too-long (leb-false _ _ e)
       go true e false f = past (leb-true _ _ e) (leb-false _ _ f)
-      go true e true f = subst Verdict (sym (in-part (leb-true _ _ f))) (judged (leb-true _ _ e) (leb-true _ _ f) (endOf (readFrom 0 s statement tt at)) (one-says s at (tokens-at s at)))
+      go true e true f =
+          subst Verdict (sym (in-part (leb-true _ _ f)))
+          (judged (leb-true _ _ e) (leb-true _ _ f) (endOf (readFrom 0 s statement tt at)) (one-says s at (tokens-at s at)))
 
   only : (v : Result ℕ) → Verdict v → ends (readStatement s at) ≡ v
   unfolding readStatement
@@ -151,7 +153,8 @@ module _ (s : List ℕ) (at : ℕ) where
       from (not-read l m (five r)) = (l, m, r)
 
   pub statement-four-exactly : (p : ℕ)
-      → readStatement s at ≡ refused unexpected p ↔ (length s ≤ fileBytes) × (at ≤ length s) × (OneFourToken (lineAt s at .tokens) p ⊎ OneFourEnd (lineAt s at .tokens) (lineAt s at .last) p)
+      → readStatement s at ≡ refused unexpected p ↔ (length s ≤ fileBytes) × (at ≤ length s)
+      × (OneFourToken (lineAt s at .tokens) p ⊎ OneFourEnd (lineAt s at .tokens) (lineAt s at .last) p)
   statement-four-exactly p = (λ e. from (asked e), λ h. told (not-read (h .0) (h .1) (to (h .2))))
     where
       from : Verdict (refused unexpected p)

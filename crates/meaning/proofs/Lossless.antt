@@ -1,4 +1,4 @@
--- The paper's value of a statement loses nothing: it gives the statement back. Assumes nothing.
+-- The paper's value of a statement loses nothing: it gives the statement back.
 use Prim.Native.Nat.{ℕ, _+_, _-_}
 use mathlib.Core.Path.{_≡_, refl, sym, _∙_, ap, ap₂}
 use native.Mathlib.Omega.{arith}

@@ -138,7 +138,8 @@ refuses : (q : Point) (t : Item) (c : Class) → t .class ≡ classNo c → isPo
 refuses q t c ec d = rw (ec, token-number c) (go (isClass c unrealTime) (isClass c unrealDate) refl refl)
   where
     go : (x y : Bool) → isClass c unrealTime ≡ x → isClass c unrealDate ≡ y
-        → cond (not (isPoint (step q time) dead) && x) (refuse notReal t) (cond (not (isPoint (step q date) dead) && y) (refuse notReal t) (refuse unexpected t))
+        → cond (not (isPoint (step q time) dead) && x) (refuse notReal t)
+        (cond (not (isPoint (step q date) dead) && y) (refuse notReal t) (refuse unexpected t))
         ≡ cond (isPoint (step q (cond x time (cond y date c))) dead) (refuse unexpected t) (refuse notReal t)
     go true y e f =
         let z : y ≡ false = sym f ∙ ap (λ (b : Class). isClass b unrealDate) (is-class c unrealTime e) in

@@ -1,4 +1,4 @@
--- A number's class is one of three: the law that `start_value` is proved by. Assumes nothing.
+-- A number's class is one of three: the law that `start_value` is proved by.
 use mathlib.Core.Path.{_≡_, refl, _∙_}
 use mathlib.Core.Bool.{Bool, true, false, cond, _||_, _&&_}
 use Rattle.laws.proofs.Choose.{choose}

@@ -16,7 +16,9 @@ move-start-requires : tie.Need-move-start-requires
 move-start-requires c κs = search needs
 
 returns : tie.Need-returns
-returns c = reads moveSource _ _ _ _ (c .before .before .before .before .next-item .ensures .is) (rw (← c .before .transfer-of .ensures) (search choose depth 9))
+returns c =
+    reads moveSource _ _ _ _ (c .before .before .before .before .next-item .ensures .is)
+    (rw (← c .before .transfer-of .ensures) (search choose depth 9))
 
 transfer-of-requires-2 : tie.Need-transfer-of-requires-2
 transfer-of-requires-2 c κs = search needs
@@ -25,7 +27,9 @@ move-start-requires-2 : tie.Need-move-start-requires-2
 move-start-requires-2 c κs = search needs
 
 returns-2 : tie.Need-returns-2
-returns-2 c = reads moveSource _ _ _ _ (c .before .before .before .before .before .before .next-item .ensures .is) (rw (← c .before .transfer-of2 .ensures) (search choose depth 9))
+returns-2 c =
+    reads moveSource _ _ _ _ (c .before .before .before .before .before .before .next-item .ensures .is)
+    (rw (← c .before .transfer-of2 .ensures) (search choose depth 9))
 
 part-of-requires : tie.Need-part-of-requires
 part-of-requires c κs = search needs
@@ -37,7 +41,9 @@ move-start-requires-3 : tie.Need-move-start-requires-3
 move-start-requires-3 c κs = search needs
 
 returns-3 : tie.Need-returns-3
-returns-3 c = reads moveSource _ _ _ _ (c .before .before .before .before .before .before .before .before .before .next-item .ensures .is) (rw (← c .before .before .part-of .ensures, ← c .before .transfer-of3 .ensures) (search choose depth 9))
+returns-3 c =
+    reads moveSource _ _ _ _ (c .before .before .before .before .before .before .before .before .before .next-item .ensures .is)
+    (rw (← c .before .before .part-of .ensures, ← c .before .transfer-of3 .ensures) (search choose depth 9))
 
 unexpected-requires : tie.Need-unexpected-requires
 unexpected-requires c κs = search needs

@@ -18,7 +18,9 @@ transferred-requires : tie.Need-transferred-requires
 transferred-requires c κs = search needs
 
 returns-2 : tie.Need-returns-2
-returns-2 c = reads moveStart _ _ _ _ (c .before .before .before .before .before .next-item .ensures .is) (rw (← c .transferred .ensures) (search along depth 9))
+returns-2 c =
+    reads moveStart _ _ _ _ (c .before .before .before .before .before .next-item .ensures .is)
+    (rw (← c .transferred .ensures) (search along depth 9))
 
 unexpected-requires : tie.Need-unexpected-requires
 unexpected-requires c κs = search needs

@@ -21,7 +21,9 @@ transferred-requires-2 : tie.Need-transferred-requires-2
 transferred-requires-2 c κs = search needs
 
 returns-2 : tie.Need-returns-2
-returns-2 c = reads startDate _ _ _ _ (c .before .before .before .before .before .next-item .ensures .is) (rw (← c .transferred2 .ensures) (search along depth 9))
+returns-2 c =
+    reads startDate _ _ _ _ (c .before .before .before .before .before .next-item .ensures .is)
+    (rw (← c .transferred2 .ensures) (search along depth 9))
 
 refuse-requires : tie.Need-refuse-requires
 refuse-requires c κs = search needs

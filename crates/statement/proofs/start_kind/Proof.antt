@@ -31,7 +31,9 @@ start-operator-requires : tie.Need-start-operator-requires
 start-operator-requires c κs = search needs
 
 returns-3 : tie.Need-returns-3
-returns-3 c = reads startKind _ _ _ _ (c .before .before .before .before .before .before .before .before .next-item .ensures .is) (rw (← c .before .part-of .ensures) (search choose depth 9))
+returns-3 c =
+    reads startKind _ _ _ _ (c .before .before .before .before .before .before .before .before .next-item .ensures .is)
+    (rw (← c .before .part-of .ensures) (search choose depth 9))
 
 unexpected-requires : tie.Need-unexpected-requires
 unexpected-requires c κs = search needs

@@ -22,7 +22,9 @@ ending-requires : tie.Need-ending-requires
 ending-requires c κs = search needs
 
 returns : tie.Need-returns
-returns c = reads startValue _ _ _ _ (c .before .before .before .before .before .before .next-item .ensures .is) (rw (← c .before .before .start-when .ensures, ← c .before .transferred .ensures) (search values depth 9))
+returns c =
+    reads startValue _ _ _ _ (c .before .before .before .before .before .before .next-item .ensures .is)
+    (rw (← c .before .before .start-when .ensures, ← c .before .transferred .ensures) (search values depth 9))
 
 start-when-requires-2 : tie.Need-start-when-requires-2
 start-when-requires-2 c κs = search needs
@@ -34,7 +36,9 @@ ending-requires-2 : tie.Need-ending-requires-2
 ending-requires-2 c κs = search needs
 
 returns-2 : tie.Need-returns-2
-returns-2 c = reads startValue _ _ _ _ (c .before .before .before .before .before .before .before .next-item .ensures .is) (rw (← c .before .before .start-when2 .ensures, ← c .before .transferred2 .ensures) (search values depth 9))
+returns-2 c =
+    reads startValue _ _ _ _ (c .before .before .before .before .before .before .before .next-item .ensures .is)
+    (rw (← c .before .before .start-when2 .ensures, ← c .before .transferred2 .ensures) (search values depth 9))
 
 unexpected-requires : tie.Need-unexpected-requires
 unexpected-requires c κs = search needs

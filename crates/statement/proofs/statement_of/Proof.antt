@@ -1,4 +1,4 @@
--- `statement::statement_of` meets its contract. Assumes nothing.
+-- `statement::statement_of` meets its contract.
 use Rattle.laws.proofs.Choose.{choose}
 use Rattle.statement.specs.Statement.{statementOf}
 use borrow.Author.Needs.{needs}

@@ -1,4 +1,4 @@
--- `statement::transferred` meets its contract. Assumes nothing.
+-- `statement::transferred` meets its contract.
 use Rattle.laws.proofs.Choose.{choose}
 use Rattle.statement.proofs.transferred.Statement.{statement}
 use Rattle.statement.proofs.transferred.Tie as tie
