@@ -23,7 +23,7 @@ use Rattle.item.specs.Tokens.Next.{item, ended, noTokenNext}
 abbrev pub up : Token → Token
 up (End p) = End (suc p)
 up (NoToken w p) = NoToken w (suc p)
-up (Word w a b) = Word w (suc a) (suc b)
+up (Word a b w) = Word (suc a) (suc b) w
 up (Number a b) = Number (suc a) (suc b)
 up (Time a b) = Time (suc a) (suc b)
 up (Text a b) = Text (suc a) (suc b)
@@ -100,7 +100,7 @@ module _ (x : ℕ) (v : List ℕ) where
   unfolding itemOf
   item-up (End p) = refl
   item-up (NoToken w p) = refl
-  item-up (Word w a b) = refl
+  item-up (Word a b w) = refl
   item-up (Number a b) = simp (number-class-up, date-up, suc-sub-suc, part-up)
   item-up (Time a b) = rw time-up
   item-up (Text a b) = refl

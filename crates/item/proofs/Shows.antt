@@ -52,7 +52,7 @@ by-token : (s : List ℕ) (k : Token) → Shows (numbered 0 s k) (itemOf s k)
 unfolding numbered itemOf
 by-token s (End p) = the-end refl (none-before p)
 by-token s (NoToken w p) = no-token refl (none-before p)
-by-token s (Word w a b) = a-token refl (none-before a) (none-before b)
+by-token s (Word a b w) = a-token refl (none-before a) (none-before b)
 by-token s (Number a b) = a-token refl (none-before a) (none-before b)
 by-token s (Time a b) = a-token refl (none-before a) (none-before b)
 by-token s (Text a b) = a-token refl (none-before a) (none-before b)
@@ -78,7 +78,7 @@ module _ (x : ℕ) (v : List ℕ) (base : ℕ) where
   unfolding numbered
   fewer (End p) = simp (add-suc, suc-add, suc-sub-suc)
   fewer (NoToken w p) = simp (add-suc, suc-add, suc-sub-suc)
-  fewer (Word w a b) = simp (add-suc, suc-add, suc-sub-suc)
+  fewer (Word a b w) = simp (add-suc, suc-add, suc-sub-suc)
   fewer (Number a b) = simp (add-suc, suc-add, suc-sub-suc, number-class-up, date-up, part-up)
   fewer (Time a b) = simp (add-suc, suc-add, suc-sub-suc, time-up)
   fewer (Text a b) = simp (add-suc, suc-add, suc-sub-suc)

@@ -14,7 +14,7 @@ pub next-of : (base : ℕ) (s : List ℕ) (t : Token) → numbered base s t .nex
 unfolding numbered
 next-of base s (End p) = refl
 next-of base s (NoToken w p) = refl
-next-of base s (Word w a b) = refl
+next-of base s (Word a b w) = refl
 next-of base s (Number a b) = refl
 next-of base s (Time a b) = refl
 next-of base s (Text a b) = refl

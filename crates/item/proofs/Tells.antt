@@ -42,7 +42,7 @@ by-token : (s : List ℕ) (k : Token) → startOf k ≤ endOf k → Told (number
 unfolding numbered itemOf
 by-token s (End p) l = tt
 by-token s (NoToken w p) l = tt
-by-token s (Word w a b) l = made-tells (wordClass w) a b 0 zero Equal l
+by-token s (Word a b w) l = made-tells (wordClass w) a b 0 zero Equal l
 by-token s (Number a b) l = made-tells (numberClass s a b) a b (dateNumber s a b) (numberOf (part s a (b - a))) Equal l
 by-token s (Time a b) l = made-tells (timeClass s a) a b (timeNumber s a) zero Equal l
 by-token s (Text a b) l = made-tells string a b 0 zero Equal l

@@ -58,7 +58,7 @@ made base class start end value = madeOf base class start end value zero Equal
 unfoldable pub numbered : ℕ → List ℕ → Token → Item
 numbered base s (End p) = made base endNo p p 0
 numbered base s (NoToken why p) = made base (noTokenNo why) p p 0
-numbered base s (Word w a b) = made base (classNo (wordClass w)) a b 0
+numbered base s (Word a b w) = made base (classNo (wordClass w)) a b 0
 numbered base s (Number a b) = madeOf base (classNo (numberClass s a b)) a b (dateNumber s a b) (numberOf (part s a (b - a))) Equal
 numbered base s (Time a b) = made base (classNo (timeClass s a)) a b (timeNumber s a)
 numbered base s (Text a b) = made base (classNo string) a b 0

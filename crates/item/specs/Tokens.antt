@@ -109,7 +109,7 @@ at c a b x = item (record { class = c; place = a; end = b; said = x })
 unfoldable pub itemOf : List ℕ → Token → Next
 itemOf s (End p) = ended p
 itemOf s (NoToken why p) = noTokenNext why p
-itemOf s (AWord w a b) = at (wordClass w) a b unsaid
+itemOf s (AWord a b w) = at (wordClass w) a b unsaid
 itemOf s (Number a b) = at (numberClass s a b) a b (saysNumber (dateNumber s a b) (numberOf (part s a (b - a))))
 itemOf s (Time a b) = at (timeClass s a) a b (saysTime (timeNumber s a))
 itemOf s (Text a b) = at string a b unsaid

@@ -244,7 +244,7 @@ pub fn next_item(s: &[u8], base: usize, at: usize) -> Item
     match next_token(s, at - base) {
         Token::End(p) => item_of(base, END, p, p, 0),
         Token::NoToken { why, place } => item_of(base, no_token_class(why), place, place, 0),
-        Token::Word { word, start, end } => item_of(base, word_class(word), start, end, 0),
+        Token::Word { start, end, word } => item_of(base, word_class(word), start, end, 0),
         Token::Number { start, end } => number_item(s, base, start, end),
         Token::Time { start, end } => time_item(s, base, start, end),
         Token::Text { start, end } => item_of(base, STRING, start, end, 0),

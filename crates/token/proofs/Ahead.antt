@@ -42,7 +42,7 @@ pub record Figures (s : List ℕ) (i b : ℕ) : Type 0 where
 pub data Ahead (s : List ℕ) (i : ℕ) : Token → Type 0 where
   the-end : length s ≤ i → Ahead s i (End i)
   no-token : {w : Why} → i < length s → Ahead s i (NoToken w i)
-  a-word : {w : ReservedOrName} {b : ℕ} → Span s i b → Ahead s i (Word w i b)
+  a-word : {w : ReservedOrName} {b : ℕ} → Span s i b → Ahead s i (Word i b w)
   a-number : {b : ℕ} → Span s i b → Figures s i b → Ahead s i (Number i b)
   a-time : {b : ℕ} → Span s i b → Ahead s i (Time i b)
   a-text : {b : ℕ} → Span s i b → Ahead s i (Text i b)
@@ -145,7 +145,7 @@ module _ (s : List ℕ) (i : ℕ) where
 abbrev pub startOf : Token → ℕ
 startOf (End p) = p
 startOf (NoToken w p) = p
-startOf (Word w a b) = a
+startOf (Word a b w) = a
 startOf (Number a b) = a
 startOf (Time a b) = a
 startOf (Text a b) = a
@@ -155,7 +155,7 @@ startOf (Semicolon a b) = a
 abbrev pub endOf : Token → ℕ
 endOf (End p) = p
 endOf (NoToken w p) = p
-endOf (Word w a b) = b
+endOf (Word a b w) = b
 endOf (Number a b) = b
 endOf (Time a b) = b
 endOf (Text a b) = b

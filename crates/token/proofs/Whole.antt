@@ -128,7 +128,7 @@ whole-string-exactly s i c = (λ w. (tested s i c w, content-is s i c w), λ h. 
 abbrev isString : Token → Bool
 isString (End p) = false
 isString (NoToken w p) = false
-isString (Word w a b) = false
+isString (Word a b w) = false
 isString (Number a b) = false
 isString (Time a b) = false
 isString (Text a b) = true

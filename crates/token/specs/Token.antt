@@ -19,7 +19,7 @@ use Rattle.token.specs.declared.Token.the-variants.{End, NoToken, Word, 
 
 -- "Word: [..] a longer run is no token": what is read from i on
 abbrev pub wordToken : ℕ → WordRead → Token
-wordToken i (Is w e) = Word w i e
+wordToken i (Is w e) = Word i e w
 wordToken i NoWord = NoToken Misshapen i
 
 -- "String: byte 34, then 0 to 255 bytes from 32 to 254 other than 34, then byte 34.": so stand the bytes of s from i on, with c between the

@@ -46,9 +46,9 @@ pub enum Token {
         place: usize,
     },
     Word {
-        word: Word,
         start: usize,
         end: usize,
+        word: Word,
     },
     Number {
         start: usize,
@@ -84,9 +84,9 @@ fn word_token(s: &[u8], i: usize) -> Token
         };
     };
     Token::Word {
-        word,
         start: i,
         end,
+        word,
     }
 }
 
