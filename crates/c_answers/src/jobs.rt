@@ -3,12 +3,12 @@ use crate::refusal;
 use c_numbers::statements::statement_numbers;
 use job::JobAnswer;
 use job::StatementAnswer;
-ghost use Rattle.job.specs.Job.{jobSays};
-ghost use Rattle.job.specs.Statement.{statementSays};
+ghost use Rattle.job.specs.Job.{paperJob};
+ghost use Rattle.job.specs.Statement.{paperStatementAt};
 ghost use Rattle.c_answers.specs.Returned.{GivesCount, GivesStatement};
 
 pub fn give_job(a: JobAnswer, statements: &mut usize) -> u64
-    ensures { λ r. ⌜ GivesCount (jobSays a) r (now (statements .entry)) (now (statements .exit)) ⌝ }
+    ensures { λ r. ⌜ GivesCount (paperJob a) r (now (statements .entry)) (now (statements .exit)) ⌝ }
 {
     match a {
         JobAnswer::Taken(n) => {
@@ -20,7 +20,7 @@ pub fn give_job(a: JobAnswer, statements: &mut usize) -> u64
 }
 
 pub fn give_statement(a: StatementAnswer, numbers: &mut [u64; 20], mantissa: &mut i64) -> u64
-    ensures { λ r. ⌜ GivesStatement (statementSays a) r (now (numbers .entry)) (now (numbers .exit)) (now (mantissa .entry)) (now (mantissa .exit)) ⌝ }
+    ensures { λ r. ⌜ GivesStatement (paperStatementAt a) r (now (numbers .entry)) (now (numbers .exit)) (now (mantissa .entry)) (now (mantissa .exit)) ⌝ }
 {
     match a {
         StatementAnswer::Read(x) => {

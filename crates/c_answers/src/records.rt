@@ -3,13 +3,13 @@ use crate::refusal;
 use c_numbers::records::record_numbers;
 use record_read::RecordRead;
 use record::Written;
-ghost use Rattle.record_read.specs.Reading.{readSays};
-ghost use Rattle.record.specs.Writing.{writeSays};
+ghost use Rattle.record_read.specs.Reading.{paperRecordRead};
+ghost use Rattle.record.specs.Writing.{paperRecordWritten};
 ghost use Rattle.c_numbers.specs.Records.{recordNumbers};
 ghost use Rattle.c_answers.specs.Returned.{GivesCount, GivesNumbers};
 
 pub fn give_written(a: Written, used: &mut usize) -> u64
-    ensures { λ r. ⌜ GivesCount (writeSays a) r (now (used .entry)) (now (used .exit)) ⌝ }
+    ensures { λ r. ⌜ GivesCount (paperRecordWritten a) r (now (used .entry)) (now (used .exit)) ⌝ }
 {
     match a {
         Written::Bytes(n) => {
@@ -21,7 +21,7 @@ pub fn give_written(a: Written, used: &mut usize) -> u64
 }
 
 pub fn give_record(a: RecordRead, numbers: &mut [u64; 8]) -> u64
-    ensures { λ r. ⌜ GivesNumbers recordNumbers (readSays a) r (now (numbers .entry)) (now (numbers .exit)) ⌝ }
+    ensures { λ r. ⌜ GivesNumbers recordNumbers (paperRecordRead a) r (now (numbers .entry)) (now (numbers .exit)) ⌝ }
 {
     match a {
         RecordRead::Taken(x) => {

@@ -1,4 +1,4 @@
--- Which dates and times are real ones (document 01, "Bytes and tokens"): dates as whole numbers yyyymmdd, times as hhmmss. Assumes nothing.
+-- Which dates and times are real ones (document 01, "Bytes and tokens"): dates as whole numbers yyyymmdd, times as hhmmss.
 use Prim.Native.Nat.{ℕ, _/_, _%_}
 use mathlib.Core.Bool.{Bool, cond, _&&_, _||_}
 use lib.Dec.{leb, eqb}

@@ -1,4 +1,4 @@
--- Laws for every call. Assumes nothing.
+-- Laws for every call.
 use Prim.Native.Nat.{ℕ}
 use mathlib.Core.Path.{_≡_, refl, sym, _∙_}
 use mathlib.Core.Bool.{Bool, true, false, cond}

@@ -1,7 +1,7 @@
 -- Demand 1 for the calls on session names. "Each public call's contract determines the returned answer and all memory lent to it, refusals included": two results
 -- that meet a call's contract are equal. "A refusal comes exactly where document 01 says ... and leaves all lent memory as it found it": an answer is
 -- given exactly under its row's condition, and a refused call's memory at exit is its memory at entry. The calls of `calendar` answer yes or no by one
--- word of specs/, so their contracts are equations and nothing is left to say of them. Assumes nothing.
+-- word of specs/, so their contracts are equations and nothing is left to say of them.
 use Prim.Native.Nat.{ℕ}
 use mathlib.Core.Path.{_≡_, refl, sym, _∙_}
 use mathlib.Core.Bool.{Bool, true, false, cond}
@@ -16,7 +16,7 @@ use Rattle.counts.proofs.Results.{refused-not-done}
 use Rattle.field.specs.Bytes.{ascii, hasAt}
 use Rattle.decimal.specs.declared.DigitsRead.{DigitsRead}
 use Rattle.decimal.specs.declared.DigitsRead.the-variants.{Value, NotDigits}
-use Rattle.session_name.specs.Name.{noName, kindRead, numberRead, isFramed, nameRead, writeRefusal, written, writtenBytes, readSays, writeSays}
+use Rattle.session_name.specs.Name.{noName, kindRead, numberRead, isFramed, nameRead, writeRefusal, written, writtenBytes, paperNameRead, paperNameWritten}
 use Rattle.session_name.specs.declared.Kind.{Kind}
 use Rattle.session_name.specs.declared.Kind.the-variants.{Request, Response}
 use Rattle.session_name.proofs.Says.{read-says-all, write-says-all}
@@ -25,10 +25,10 @@ use Rattle.claims.specs.Exactly.{Exactly, OneResult}
 use Rattle.claims.specs.NameRows.{inRange, WriteNameRow, not-in-range, no-room, name-written, ReadNameRow, name-read, no-name}
 use Rattle.claims.proofs.Demand1.{refused-stays, one-result}
 
-pub read-name-determined : OneResult (Unit {0}) readSays
+pub read-name-determined : OneResult (Unit {0}) paperNameRead
 read-name-determined = one-result read-says-all
 
-pub write-name-determined : OneResult (List ℕ) writeSays
+pub write-name-determined : OneResult (List ℕ) paperNameWritten
 write-name-determined = one-result write-says-all
 
 write-rows : (max n : ℕ) (out : List ℕ) → WriteNameRow max n (length out) (written max n out)

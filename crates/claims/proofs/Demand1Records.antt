@@ -1,5 +1,5 @@
 -- Demand 1 for the calls on records. Two results that meet a call's contract are equal, answer and lent output; the writer's answers are given exactly
--- under their rows' conditions, in document 01's order; a refused call leaves the lent output as it was. Assumes nothing.
+-- under their rows' conditions, in document 01's order; a refused call leaves the lent output as it was.
 use Prim.Native.Nat.{ℕ, _<_}
 use mathlib.Core.Path.{_≡_, refl, sym, ap, _∙_}
 use mathlib.Core.Bool.{Bool, true, false, cond}
@@ -12,8 +12,8 @@ use Rattle.counts.proofs.Results.{refused-not-done}
 use Rattle.counts.specs.Result.{Result, refused, done}
 use Rattle.moment.specs.Moment.{realMoment}
 use Rattle.record.specs.Record.{Content, recordBytes}
-use Rattle.record_read.specs.Reading.{recordRead, readSays, contentOf, withText}
-use Rattle.record.specs.Writing.{writeRefusal, written, writtenBytes, writeSays}
+use Rattle.record_read.specs.Reading.{recordRead, paperRecordRead, contentOf, withText}
+use Rattle.record.specs.Writing.{writeRefusal, written, writtenBytes, paperRecordWritten}
 use Rattle.record_read.specs.declared.Record.{Record}
 use Rattle.record_read.proofs.RoundTrip.{read-exactly, only-seven}
 use Rattle.record.proofs.Says.{write-says-all}
@@ -68,8 +68,8 @@ module _ (limit : ℕ) (most : limit < 100000000) (s : List ℕ) where
   pub read-record-exactly : Exactly (withText s (recordRead limit s)) (ReadRow limit s)
   read-record-exactly = (read-rows (recordRead limit s) refl, read-row-is)
 
-pub read-record-determined : OneResult (Unit {0}) readSays
+pub read-record-determined : OneResult (Unit {0}) paperRecordRead
 read-record-determined = one-result read-says-all
 
-pub write-record-determined : OneResult (List ℕ) writeSays
+pub write-record-determined : OneResult (List ℕ) paperRecordWritten
 write-record-determined = one-result write-says-all

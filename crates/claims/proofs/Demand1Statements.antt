@@ -1,4 +1,4 @@
--- Demand 1 for the statement call: each answer is given exactly under its row's condition, and no other is given. Assumes nothing.
+-- Demand 1 for the statement call: each answer is given exactly under its row's condition, and no other is given.
 use Prim.Native.Nat.{ℕ, _≤_}
 use mathlib.Core.Path.{_≡_, refl, sym, subst}
 use mathlib.Core.Bool.{Bool, true, false}

@@ -1,5 +1,5 @@
 -- Demand 1 for the calls of the session table: each answer is given exactly under its row's condition, in document 01's order. What a refused call leaves, and
--- that there is one result, is in `Demand1TableResults`. Assumes nothing.
+-- that there is one result, is in `Demand1TableResults`.
 use Prim.Native.Nat.{ℕ}
 use mathlib.Core.Path.{_≡_, refl}
 use mathlib.Core.Bool.{Bool, true, false, cond}

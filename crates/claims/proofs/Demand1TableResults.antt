@@ -1,5 +1,5 @@
 -- Demand 1 for the calls of the session table: a refused call leaves every byte as it was, and two results that meet a call's contract are equal, answer and
--- bytes. Assumes nothing.
+-- bytes.
 use Prim.Native.Nat.{ℕ}
 use mathlib.Core.Path.{_≡_, refl, sym, ap, ap₂, _∙_}
 use mathlib.Core.List.{List}

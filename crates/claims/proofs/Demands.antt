@@ -1,4 +1,4 @@
--- The first two demands hold, from the crates below; the third is in `Demand3`. Assumes nothing.
+-- The first two demands hold, from the crates below; the third is in `Demand3`.
 use Prim.Native.Nat.{ℕ}
 use mathlib.Core.Path.{_≡_, refl, sym, ap, _∙_}
 use mathlib.Core.Bool.{Bool, true, false, cond}

@@ -1,4 +1,4 @@
--- Every refusal of every call fits what C gets, row by row. Assumes nothing.
+-- Every refusal of every call fits what C gets, row by row.
 use Prim.Native.Nat.{ℕ, _≤_}
 use mathlib.Core.List.{List}
 use native.Mathlib.Omega.{arith}

@@ -1,4 +1,4 @@
--- No stand-in for a reader keeps the demand that document 01 says it breaks, and there are such readers. Assumes nothing.
+-- No stand-in for a reader keeps the demand that document 01 says it breaks, and there are such readers.
 use Prim.Native.Nat.{ℕ, _+_}
 use mathlib.Core.Path.{_≡_, refl, sym, ap, _∙_}
 use mathlib.Core.List.{List, [], _∷_}

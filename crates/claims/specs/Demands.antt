@@ -1,6 +1,6 @@
 -- What is claimed: the user's three demands, each a record whose fields are its claims, under the sentences that they say. `proofs/Demands` gives one
 -- of each. The words are those that the contracts of the public calls cite (docs/CALLS.md); that a call ends, for all bytes and numbers, and meets its
--- contract, is what the prover shows of every function. Assumes nothing.
+-- contract, is what the prover shows of every function.
 use Prim.Native.Nat.{ℕ, _+_, _-_, _*_, _^_, _≤_, _<_}
 use mathlib.Core.Path.{_≡_}
 use mathlib.Core.Bool.{Bool, true, false, cond}
@@ -35,8 +35,8 @@ use Rattle.item.specs.Numbers.{NumberFrom}
 use Rattle.item.specs.Files.{InFile}
 use Rattle.statement.specs.declared.Statement.{Statement as StatementRead}
 use Rattle.meaning.specs.Paper.{paperStatement}
-use Rattle.job.specs.Job.{readJob, filled, jobSays}
-use Rattle.job.specs.Statement.{placed as placedAt, Tiled, readStatement, statementSays, textAt}
+use Rattle.job.specs.Job.{readJob, filled, paperJob}
+use Rattle.job.specs.Statement.{placed as placedAt, Tiled, readStatement, paperStatementAt, textAt}
 use Rattle.job_claims.specs.Verdict.{Verdict, Taken, Crowded}
 use Rattle.job_claims.specs.Rows.{One}
 use Rattle.sessions.specs.History.{Call, toPlace, toTakeUp, toAnswer, toCollect, Event, placed, tookUp, answered, collected, collectedAs, placings, accepted, collections}
@@ -94,12 +94,12 @@ pub record Demand1 : Type 0 where
   pub fits-answer : (b : List ℕ) (t c : ℕ) (a : Answer) → Fits (AnswerRow b (abs b) t c a)
   pub fits-collect : (b : List ℕ) (p t room : ℕ) → Fits (CollectRow b (abs b) p t room)
   -- "Each public call's contract determines the returned answer and all memory lent to it, refusals included"
-  pub one-read-name : OneResult (Unit {0}) name.readSays
-  pub one-written-name : OneResult (List ℕ) name.writeSays
-  pub one-read-record : OneResult (Unit {0}) reading.readSays
-  pub one-written-record : OneResult (List ℕ) writing.writeSays
-  pub one-job : OneResult (List ℕ) jobSays
-  pub one-statement : OneResult (Unit {0}) statementSays
+  pub one-read-name : OneResult (Unit {0}) name.paperNameRead
+  pub one-written-name : OneResult (List ℕ) name.paperNameWritten
+  pub one-read-record : OneResult (Unit {0}) reading.paperRecordRead
+  pub one-written-record : OneResult (List ℕ) writing.paperRecordWritten
+  pub one-job : OneResult (List ℕ) paperJob
+  pub one-statement : OneResult (Unit {0}) paperStatementAt
   pub one-made : OneResult (List ℕ) paperMade
   pub one-placed : OneResult (List ℕ) paperPlaced
   pub one-taken-up : OneResult (List ℕ) paperTakenUp

@@ -1,4 +1,4 @@
--- How demand 1 is said of one call. Assumes nothing.
+-- How demand 1 is said of one call.
 use Prim.Native.Nat.{ℕ}
 use mathlib.Core.Path.{_≡_}
 use Rattle.counts.specs.Result.{Result, refused}

@@ -1,5 +1,5 @@
 -- The examples that document 01 marks with a star, and both ends, sign and zero of its numbers, in one table: 01's words, and the test that
--- they are, on the definitions that the contracts cite. `proofs/Examples` proves that every row holds, by one computation. Assumes nothing.
+-- they are, on the definitions that the contracts cite. `proofs/Examples` proves that every row holds, by one computation.
 use Prim.Native.Nat.{ℕ}
 use Prim.Native.String.{String}
 use mathlib.Core.Bool.{Bool, true, false, not, _&&_}

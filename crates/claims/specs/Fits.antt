@@ -1,4 +1,4 @@
--- Every refusal of every call fits the one number that C gets: its number is from 1 to 14 and its place at most 65,535. Assumes nothing.
+-- Every refusal of every call fits the one number that C gets: its number is from 1 to 14 and its place at most 65,535.
 use Prim.Native.Nat.{ℕ, _≤_}
 use Rattle.counts.specs.Limits.{fileBytes}
 use Rattle.counts.specs.Result.{Result, refused}

@@ -1,5 +1,5 @@
 -- Document 01's rows for the statement call, which "judges only the bytes from the given offset on, as if a statement of any kind began there, and stops
--- after its `;`; 1, then 11 for an offset past the file's length, then 3, 5 and 4". Assumes nothing.
+-- after its `;`; 1, then 11 for an offset past the file's length, then 3, 5 and 4".
 use Prim.Native.Nat.{ℕ, _≤_, _<_}
 use mathlib.Core.List.{List}
 use lib.ListN.{length}

@@ -1,5 +1,5 @@
 -- Document 01's rows for the calls of the session table: one constructor for each answer, and what stands before a condition has been tested and
--- passed. b are the lent bytes, and σ is the table that they hold. Assumes nothing.
+-- passed. b are the lent bytes, and σ is the table that they hold.
 use Prim.Native.Nat.{ℕ, _+_, _≤_, _<_}
 use mathlib.Core.Path.{_≡_}
 use mathlib.Core.Bool.{Bool, true, false, _&&_}

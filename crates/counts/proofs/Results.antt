@@ -1,4 +1,4 @@
--- Laws of `Result`: what is known of a call that was not refused. Assumes nothing.
+-- Laws of `Result`: what is known of a call that was not refused.
 use Prim.Native.Nat.{ℕ, suc}
 use mathlib.Core.Path.{_≡_, refl}
 use mathlib.Core.Bool.{Bool, true, false, cond}

@@ -1,4 +1,4 @@
--- The limits of document 01, each said once. Assumes nothing.
+-- The limits of document 01, each said once.
 use Prim.Native.Nat.{ℕ}
 
 -- "A job file has at most 65,535 bytes."

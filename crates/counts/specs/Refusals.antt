@@ -1,4 +1,4 @@
--- The refusal numbers of document 01 by name, each under its row. Assumes nothing.
+-- The refusal numbers of document 01 by name, each under its row.
 use Prim.Native.Nat.{ℕ}
 use Rattle.counts.specs.declared.Refusal.{Refusal}
 

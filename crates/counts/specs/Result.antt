@@ -1,4 +1,4 @@
--- What document 01 has a call answer: a refusal with its number and place, or what was asked for. Assumes nothing.
+-- What document 01 has a call answer: a refusal with its number and place, or what was asked for.
 use Prim.Native.Nat.{ℕ}
 use mathlib.Core.List.{List}
 use lib.ListN.{length}

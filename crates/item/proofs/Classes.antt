@@ -1,4 +1,4 @@
--- Laws of a class that is chosen by a test, by its number; and of the numbers that dates and times are. Assumes nothing.
+-- Laws of a class that is chosen by a test, by its number; and of the numbers that dates and times are.
 use Prim.Native.Nat.{ℕ, _+_, _-_, _*_, _^_, _<_}
 use mathlib.Core.Path.{_≡_, sym, _∙_}
 use mathlib.Core.Bool.{Bool, true, false, cond}

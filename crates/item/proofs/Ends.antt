@@ -1,4 +1,4 @@
--- The end of a file is at its length. Assumes nothing.
+-- The end of a file is at its length.
 use Prim.Native.Nat.{ℕ, _≤_}
 use mathlib.Core.Path.{_≡_}
 use mathlib.Core.Bool.{false}

@@ -1,4 +1,4 @@
--- Dates and times say what their digits are (document 01, "Bytes and tokens"). Assumes nothing.
+-- Dates and times say what their digits are (document 01, "Bytes and tokens").
 use Prim.Native.Nat.{ℕ, _+_, _-_, _*_, _^_, _<_}
 use mathlib.Core.Path.{_≡_, refl, sym, ap, _∙_}
 use mathlib.Core.Bool.{Bool, true, false, cond}

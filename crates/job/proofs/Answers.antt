@@ -1,4 +1,4 @@
--- What `read_job` answers, from what the loop over statements found. Assumes nothing.
+-- What `read_job` answers, from what the loop over statements found.
 use Prim.Native.Nat.{ℕ, _+_, _≤_, _<_}
 use mathlib.Core.Path.{_≡_, sym, _∙_, ap}
 use mathlib.Core.Bool.{true, false}

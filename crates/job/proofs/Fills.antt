@@ -1,4 +1,4 @@
--- The laws of a loop that writes the front of one list over the front of another. Assumes nothing.
+-- The laws of a loop that writes the front of one list over the front of another.
 use Prim.Native.Nat.{ℕ, suc, _+_, _-_, _≤_, _<_}
 use mathlib.Core.Path.{_≡_}
 use mathlib.Core.List.{List, _++_, append-assoc}

@@ -1,4 +1,4 @@
--- The laws of the loop over statements: what one turn does. Assumes nothing.
+-- The laws of the loop over statements: what one turn does.
 use Prim.Native.Nat.{ℕ, suc, _+_, _-_, _≤_, _<_}
 use mathlib.Core.Path.{_≡_, refl, sym, _∙_, ap, subst}
 use mathlib.Core.Bool.{Bool, true, false, cond}
@@ -83,8 +83,8 @@ module _ (s places : List ℕ) (k at : ℕ) (e : OffsetsRead) (inv : jobLoop s (
           let q : k ≡ statements = omega arith in
           absurd (full-stops s t n (ap (λ (j : ℕ). stepOf s j t) (sym q) ∙ sym is ∙ p))
 
-  pub within : (n : ℕ) → r ≡ On n → t .place < length s
-  within n p = on-token s k at t n (sym is ∙ p) (nextItem s at) refl (rw tok (shows s at))
+  pub in-file : (n : ℕ) → r ≡ On n → t .place < length s
+  in-file n p = on-token s k at t n (sym is ∙ p) (nextItem s at) refl (rw tok (shows s at))
 
   pub again : (n : ℕ) → r ≡ On n → jobLoop s (statements + 1 - (k + 1)) (take (k + 1) (set places k (t .place))) n ≡ e
   again n p =

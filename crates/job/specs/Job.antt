@@ -34,6 +34,6 @@ filled (done os) table = os ++ drop (length os) table
 filled (refused n p) table = table
 
 -- the paper's value of each answer of `read_job`
-abbrev pub jobSays : JobAnswer → Result ℕ
-jobSays (Taken n) = done n
-jobSays (Refused r) = refusedAs r
+abbrev pub paperJob : JobAnswer → Result ℕ
+paperJob (Taken n) = done n
+paperJob (Refused r) = refusedAs r

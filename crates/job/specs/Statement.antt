@@ -49,9 +49,9 @@ readStatement s at =
 -- ---- what the calls return, and how statements tile a file
 
 -- the paper's value of each answer of `read_statement`
-abbrev pub statementSays : StatementAnswer → Result StatementAt
-statementSays (Read x) = done x
-statementSays (NotRead r) = refusedAs r
+abbrev pub paperStatementAt : StatementAnswer → Result StatementAt
+paperStatementAt (Read x) = done x
+paperStatementAt (NotRead r) = refusedAs r
 
 -- "The text of a quoted string is shown as that part of the file between its quotes. ... where no whole string begins there it shows the
 -- empty part"

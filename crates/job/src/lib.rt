@@ -26,8 +26,8 @@ ghost use Rattle.counts.specs.Limits.{fileBytes, statements};
 ghost use Rattle.counts.specs.Refusals.{refusal};
 ghost use Rattle.counts.specs.Result.{counted};
 ghost use Rattle.token.specs.Token.{isTextAt};
-ghost use Rattle.job.specs.Job.{readJob, filled, jobSays};
-ghost use Rattle.job.specs.Statement.{onRead, statementIn, readStatement, statementSays, textAt};
+ghost use Rattle.job.specs.Job.{readJob, filled, paperJob};
+ghost use Rattle.job.specs.Statement.{onRead, statementIn, readStatement, paperStatementAt, textAt};
 ghost use Rattle.job.specs.Loop.{stop, stepRead, stepInto, stepOf, jobLoop, foundOf};
 
 // A statement, its own offset and the place after its ;
@@ -172,7 +172,7 @@ fn fill(table: &mut [u32], places: &[u32], n: usize)
 
 // A whole job file: the offsets of its statements go to the front of the lent table.
 pub fn read_job(file: &[u8], offsets: &mut [u32]) -> JobAnswer
-    ensures { λ r. ⌜ (jobSays r ≡ counted (readJob (now (file .entry)) (length (now (offsets .entry))))) × (now (offsets .exit) ≡ filled (readJob (now (file .entry)) (length (now (offsets .entry)))) (now (offsets .entry))) ⌝ }
+    ensures { λ r. ⌜ (paperJob r ≡ counted (readJob (now (file .entry)) (length (now (offsets .entry))))) × (now (offsets .exit) ≡ filled (readJob (now (file .entry)) (length (now (offsets .entry)))) (now (offsets .entry))) ⌝ }
 {
     if FILE_BYTES < file.len() {
         return JobAnswer::Refused(Refusal::plain(FILE_TOO_LONG));
@@ -193,7 +193,7 @@ pub fn read_job(file: &[u8], offsets: &mut [u32]) -> JobAnswer
 
 // The statement that begins at the place p, as it was read.
 fn placed(p: usize, r: StatementRead) -> StatementAnswer
-    ensures { λ q. ⌜ statementSays q ≡ onRead p r ⌝ }
+    ensures { λ q. ⌜ paperStatementAt q ≡ onRead p r ⌝ }
 {
     match r {
         StatementRead::Is(statement, next) => StatementAnswer::Read(StatementAt {
@@ -208,7 +208,7 @@ fn placed(p: usize, r: StatementRead) -> StatementAnswer
 // The statement at the front of the bytes s, which stand in the file from the place base on.
 fn statement_in(s: &[u8], base: usize) -> StatementAnswer
     requires { ⌜ base + length (now s) ≤ fileBytes ⌝ }
-    ensures { λ r. ⌜ statementSays r ≡ statementIn base (now (s .entry)) ⌝ }
+    ensures { λ r. ⌜ paperStatementAt r ≡ statementIn base (now (s .entry)) ⌝ }
 {
     let t = next_item(s, base, base);
     placed(t.place, statement_of(s, base, t))
@@ -216,7 +216,7 @@ fn statement_in(s: &[u8], base: usize) -> StatementAnswer
 
 // One statement, from the offset at on: the file from there is handed on as a part.
 pub fn read_statement(file: &[u8], at: usize) -> StatementAnswer
-    ensures { λ r. ⌜ statementSays r ≡ readStatement (now (file .entry)) at ⌝ }
+    ensures { λ r. ⌜ paperStatementAt r ≡ readStatement (now (file .entry)) at ⌝ }
 {
     if FILE_BYTES < file.len() {
         return StatementAnswer::Refused(Refusal::plain(FILE_TOO_LONG));

@@ -1,5 +1,5 @@
 -- Demand 2 for job files: `readJob`, which the contract of `job::read_job` cites, gives an answer exactly when document 01 says so.
--- Assumes nothing.
+--
 use Prim.Native.Nat.{ℕ, _≤_, _<_}
 use mathlib.Core.Path.{_≡_, refl, subst}
 use mathlib.Core.Bool.{Bool, true, false, cond}

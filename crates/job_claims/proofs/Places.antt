@@ -1,4 +1,4 @@
--- What a reader refuses lies within the file: every token does, and so does what ends them. Assumes nothing.
+-- What a reader refuses lies within the file: every token does, and so does what ends them.
 use Prim.Native.Nat.{ℕ, _≤_, _<_}
 use mathlib.Core.Path.{_≡_, refl, sym, ap, _∙_}
 use mathlib.Core.Bool.{false}

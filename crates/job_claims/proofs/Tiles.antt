@@ -1,4 +1,4 @@
--- A statement that the grammar gives is read, from its offset on; so the statements of a legal file tile it, each read on its own. Assumes nothing.
+-- A statement that the grammar gives is read, from its offset on; so the statements of a legal file tile it, each read on its own.
 use Prim.Native.Nat.{ℕ, _≤_, _<_}
 use mathlib.Core.Path.{_≡_, refl, sym, _∙_, ap, ap₂, subst}
 use mathlib.Core.Bool.{false}

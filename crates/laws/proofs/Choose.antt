@@ -1,6 +1,6 @@
 -- Laws of tests (`&&`, `||`) and of choices by a test (`cond`), in the form in which a function with branches asks for them: the answer x is
 -- one case's value, and the test is a callee's answer r, or an order or an equation of numbers. With these, `search choose` proves a function
--- whose word in specs/ is a nest of `cond`s with the tests of the code. Assumes nothing.
+-- whose word in specs/ is a nest of `cond`s with the tests of the code.
 use Prim.Native.Nat.{ℕ, _+_, _≤_, _<_}
 use mathlib.Core.Path.{_≡_, refl, sym, _∙_, ap, ap₂, subst}
 use mathlib.Core.Bool.{Bool, true, false, cond, _&&_, _||_, false≢true}

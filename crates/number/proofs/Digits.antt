@@ -1,4 +1,4 @@
--- The laws of a number's loops: what one turn does. Assumes nothing.
+-- The laws of a number's loops: what one turn does.
 use Prim.Native.Nat.{ℕ, suc, _+_, _-_, _*_, _^_, _≤_, _<_}
 use mathlib.Core.Path.{_≡_, sym, ap, _∙_}
 use mathlib.Core.Bool.{true, false}

@@ -1,4 +1,4 @@
--- What a numeral reads as: its digits as one whole number with its sign, and how many of them stand after the point. Assumes nothing.
+-- What a numeral reads as: its digits as one whole number with its sign, and how many of them stand after the point.
 use Prim.Native.Nat.{ℕ, zero, suc, _^_, _≤_, _<_}
 use mathlib.Core.Path.{_≡_, refl, sym, ap, _∙_}
 use mathlib.Core.Bool.{Bool, true, false}

@@ -39,6 +39,6 @@ pub record Fits (limit : ℕ) (c : Content) (at : ℕ) (out : List ℕ) : Type 0
 
 -- ---- the paper's number and values of each answer
 
-abbrev pub writeSays : Written → Result ℕ
-writeSays (Bytes n) = done n
-writeSays (Refused r) = refusedAs r
+abbrev pub paperRecordWritten : Written → Result ℕ
+paperRecordWritten (Bytes n) = done n
+paperRecordWritten (Refused r) = refusedAs r

@@ -16,7 +16,7 @@ ghost use Rattle.counts.specs.Limits.{commands, textBytes, classMost, codeMost}
 ghost use Rattle.field.specs.Part.{Wrote};
 ghost use Rattle.decimal.specs.Digits.{plainWidth};
 ghost use Rattle.record.specs.Record.{content, isOutcome, inRange, outcomeBytes, recordBytes, fixedLength};
-ghost use Rattle.record.specs.Writing.{Fits, writeRefusal, written, writtenBytes, writeSays};
+ghost use Rattle.record.specs.Writing.{Fits, writeRefusal, written, writtenBytes, paperRecordWritten};
 
 // What a command came to: PROCESSED, or ERROR with class and code.
 pub enum Outcome {
@@ -138,7 +138,7 @@ pub fn write_record(
     text: &[u8],
     out: &mut [u8],
 ) -> Written
-    ensures { λ r. ⌜ (writeSays r ≡ written commands (content (number .0) outcome (now (text .entry)) date time) (now (out .entry))) × (now (out .exit) ≡ writtenBytes commands (content (number .0) outcome (now (text .entry)) date time) (now (out .entry))) ⌝ }
+    ensures { λ r. ⌜ (paperRecordWritten r ≡ written commands (content (number .0) outcome (now (text .entry)) date time) (now (out .entry))) × (now (out .exit) ≡ writtenBytes commands (content (number .0) outcome (now (text .entry)) date time) (now (out .entry))) ⌝ }
 {
     let refused = write_refusal(number, outcome, date, time, text, out.len());
     if refused == 0 {

@@ -14,7 +14,7 @@ use Rattle.labelled.specs.Labelled.{onField}
 use Rattle.labelled.specs.declared.FieldRead.{FieldRead}
 use Rattle.moment.proofs.Moments.{moments}
 use Rattle.record.specs.declared.Outcome.{Outcome}
-use Rattle.record_read.specs.Reading.{commandSays, onOutcome, onRecord, outcomeRead, numberIn, restRead, readSays}
+use Rattle.record_read.specs.Reading.{commandField, onOutcome, onRecord, outcomeRead, numberIn, restRead, paperRecordRead}
 use Rattle.record_read.specs.declared.Record.{Record}
 use Rattle.record_read.specs.declared.CommandRead.{CommandRead}
 use Rattle.record_read.specs.declared.CommandRead.the-variants.{Command, NoCommand}
@@ -26,12 +26,12 @@ use Rattle.record_read.specs.declared.RecordRead.{RecordRead}
 use Rattle.record_read.specs.declared.RecordRead.the-variants.{Refused}
 
 module _ (R : Type 0) (x stop : R) where
-  pub command-read : (go : ℕ → R) (d : CommandRead) (e : FieldRead) (n : CommandNumber) → commandSays d ≡ e → d ≡ Command n → x ≡ go (n .0)
+  pub command-read : (go : ℕ → R) (d : CommandRead) (e : FieldRead) (n : CommandNumber) → commandField d ≡ e → d ≡ Command n → x ≡ go (n .0)
       → x ≡ onField e stop go
-  command-read go d e n p q h = rw (sym p ∙ ap commandSays q) h
+  command-read go d e n p q h = rw (sym p ∙ ap commandField q) h
 
-  pub no-command : (go : ℕ → R) (d : CommandRead) (e : FieldRead) → commandSays d ≡ e → d ≡ NoCommand → x ≡ stop → x ≡ onField e stop go
-  no-command go d e p q h = rw (sym p ∙ ap commandSays q) h
+  pub no-command : (go : ℕ → R) (d : CommandRead) (e : FieldRead) → commandField d ≡ e → d ≡ NoCommand → x ≡ stop → x ≡ onField e stop go
+  no-command go d e p q h = rw (sym p ∙ ap commandField q) h
 
   pub outcome-read : (go : Outcome → ℕ → R) (d e : OutcomeRead) (o : Outcome) (next : ℕ) → d ≡ e → d ≡ Opens o next → x ≡ go o next
       → x ≡ onOutcome e stop go
@@ -56,8 +56,8 @@ module _ (s : List ℕ) where
   pub rest-of : (n : ℕ) (o : Outcome) (x : FirstRecord) (start end e : ℕ) → x ≡ restRead s n o start end → end ≡ e → x ≡ restRead s n o start e
   rest-of n o x start end e p q = p ∙ ap (restRead s n o start) q
 
-pub says-none : (r : RecordRead) → r ≡ Refused (refusal notARecord 0) → readSays r ≡ refused notARecord 0
-says-none r e = ap readSays e
+pub says-none : (r : RecordRead) → r ≡ Refused (refusal notARecord 0) → paperRecordRead r ≡ refused notARecord 0
+says-none r e = ap paperRecordRead e
 
 -- what a test of both ends of a range gives
 pub between : (a b w : ℕ) → (leb a w && leb w b) ≡ true → (a ≤ w) × (w ≤ b)

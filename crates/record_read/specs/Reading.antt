@@ -42,9 +42,9 @@ onRecord (Ends r end) stop go = go r end
 onRecord NoRecord stop go = stop
 
 -- a command's number is a field
-abbrev pub commandSays : CommandRead → FieldRead
-commandSays (Command n) = Field (n .0)
-commandSays NoCommand = NoField
+abbrev pub commandField : CommandRead → FieldRead
+commandField (Command n) = Field (n .0)
+commandField NoCommand = NoField
 
 -- COMMAND and the number in the w digits after it, 1 to the limit "without leading zeros". No field of a record has more than eight digits.
 unfoldable pub numberIn : ℕ → List ℕ → ℕ → ℕ → FieldRead
@@ -95,9 +95,9 @@ recordRead limit s =
 abbrev pub contentOf : List ℕ → Record → Content
 contentOf s r = content (r .number .0) (r .outcome) (part s (r .start) (r .length)) (r .date) (r .time)
 
-abbrev pub readSays : RecordRead → Result Record
-readSays (Taken r) = done r
-readSays (Refused r) = refusedAs r
+abbrev pub paperRecordRead : RecordRead → Result Record
+paperRecordRead (Taken r) = done r
+paperRecordRead (Refused r) = refusedAs r
 
 -- the same with the text for its place
 abbrev pub withText : List ℕ → Result Record → Result Content

@@ -12,7 +12,7 @@ ghost use Prim.Native.Nat.{_+_, _≤_};
 ghost use lib.ListN.{length};
 ghost use Rattle.counts.specs.Limits.{commands};
 ghost use Rattle.counts.specs.Refusals.{notARecord, refusal};
-ghost use Rattle.record_read.specs.Reading.{commandSays, numberIn, outcomeRead, restRead, recordAt, recordRead, readSays, textOf};
+ghost use Rattle.record_read.specs.Reading.{commandField, numberIn, outcomeRead, restRead, recordAt, recordRead, paperRecordRead, textOf};
 
 // A record as it was read: its text is the length bytes of the input from start on.
 pub struct Record {
@@ -49,7 +49,7 @@ enum OutcomeRead {
 
 // Reads COMMAND and the number in the width digits after it.
 fn number_in(s: &[u8], at: usize, width: usize) -> CommandRead
-    ensures { λ r. ⌜ commandSays r ≡ numberIn commands (now (s .entry)) at width ⌝ }
+    ensures { λ r. ⌜ commandField r ≡ numberIn commands (now (s .entry)) at width ⌝ }
 {
     if (1 <= width) & (width <= 8) {
         let FieldRead::Field(n) = labelled::field_after(s, at, b"COMMAND ", width) else {
@@ -140,7 +140,7 @@ fn no_record() -> RecordRead
 
 // Reads the whole of bytes as one record.
 pub fn read_record(bytes: &[u8]) -> RecordRead
-    ensures { λ r. ⌜ readSays r ≡ recordRead commands (now (bytes .entry)) ⌝ }
+    ensures { λ r. ⌜ paperRecordRead r ≡ recordRead commands (now (bytes .entry)) ⌝ }
 {
     let FirstRecord::Ends(record, end) = record_at(bytes, 0) else {
         return no_record();

@@ -1,4 +1,4 @@
--- After the blanks no blank stands, and they lie within the file. Assumes nothing.
+-- After the blanks no blank stands, and they lie within the file.
 use Prim.Native.Nat.{ℕ, suc, _+_, _≤_, max}
 use mathlib.Core.Path.{_≡_, refl}
 use mathlib.Core.Bool.{Bool, true, false, not}

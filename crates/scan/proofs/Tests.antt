@@ -1,4 +1,4 @@
--- The kinds of byte as code tests them: first what most bytes of a run answer. Assumes nothing.
+-- The kinds of byte as code tests them: first what most bytes of a run answer.
 use Prim.Native.Nat.{ℕ, _≤_, _<_}
 use mathlib.Core.Path.{_≡_, refl, sym, _∙_}
 use mathlib.Core.Bool.{Bool, true, false, not, _&&_, _||_}

@@ -4,10 +4,6 @@ use mathlib.Core.Bool.{Bool, cond, not, _&&_, _||_}
 use lib.Dec.{eqb, leb}
 pub use Rattle.decimal.specs.Digits.{isDigit}
 
--- low ≤ b ≤ high
-abbrev pub within : ℕ → ℕ → ℕ → Bool
-within low high b = leb low b && leb b high
-
 -- "Space, tab, CR and LF separate."
 abbrev pub isSeparator : ℕ → Bool
 isSeparator b = eqb b 32 || eqb b 9 || eqb b 13 || eqb b 10
@@ -18,7 +14,7 @@ isLineEnd b = eqb b 13 || eqb b 10
 
 -- "an ASCII letter"
 abbrev pub isLetter : ℕ → Bool
-isLetter b = within 65 90 b || within 97 122 b
+isLetter b = (leb 65 b && leb b 90) || (leb 97 b && leb b 122)
 
 -- "ASCII letters, digits or `_`"
 abbrev pub isWordByte : ℕ → Bool
@@ -30,7 +26,7 @@ isNumericByte b = isWordByte b || eqb b 46 || eqb b 58
 
 -- "bytes from 32 to 254 other than 34"
 abbrev pub isTextByte : ℕ → Bool
-isTextByte b = within 32 33 b || within 35 254 b
+isTextByte b = (leb 32 b && leb b 33) || (leb 35 b && leb b 254)
 
 -- ---- Need not be believed: they bind functions inside alone, and no claim cites them
 

@@ -1,5 +1,5 @@
 -- Demand 2's last sentence for names: what is written reads as the same number and kind, and what reads is written again as the same bytes.
--- Both are about the words that the contracts of `read_name` and `write_name` cite. Assumes nothing.
+-- Both are about the words that the contracts of `read_name` and `write_name` cite.
 use Prim.Native.Nat.{ℕ, _≤_}
 use mathlib.Core.Path.{_≡_, refl, sym, ap, _∙_, subst}
 use mathlib.Core.Bool.{Bool, true, false, cond, _&&_}

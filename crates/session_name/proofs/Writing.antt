@@ -1,4 +1,4 @@
--- Writing a name: what a passed test gives, and what the contract asks where it is passed and where it is not. Assumes nothing.
+-- Writing a name: what a passed test gives, and what the contract asks where it is passed and where it is not.
 use Prim.Native.Nat.{ℕ, _≤_, _<_}
 use mathlib.Core.Path.{_≡_, refl, ap, _∙_}
 use mathlib.Core.Bool.{true, _&&_}

@@ -1,4 +1,4 @@
--- The names of session files (document 01, "Session names and table"). Assumes nothing.
+-- The names of session files (document 01, "Session names and table").
 use Prim.Native.Nat.{ℕ}
 use mathlib.Core.Bool.{Bool, cond, _&&_}
 use mathlib.Core.List.{List, _++_}
@@ -71,10 +71,10 @@ nameRead max name = cond (isFramed max name) (numberRead max name (digitsRead 4 
 
 -- ---- the paper's number and values of each answer
 
-abbrev pub readSays : NameRead → Result (ℕ × Kind)
-readSays (Named n kind) = done (n .0, kind)
-readSays (Refused r) = refusedAs r
+abbrev pub paperNameRead : NameRead → Result (ℕ × Kind)
+paperNameRead (Named n kind) = done (n .0, kind)
+paperNameRead (Refused r) = refusedAs r
 
-abbrev pub writeSays : NameWritten → Result ℕ
-writeSays (Bytes n) = done n
-writeSays (NotWritten r) = refusedAs r
+abbrev pub paperNameWritten : NameWritten → Result ℕ
+paperNameWritten (Bytes n) = done n
+paperNameWritten (NotWritten r) = refusedAs r

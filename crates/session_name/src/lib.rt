@@ -10,7 +10,7 @@ ghost use Prim.Native.Nat.{_+_, _≤_, _<_};
 ghost use lib.ListN.{length};
 ghost use Rattle.counts.specs.Refusals.{outOfRange, refusal};
 ghost use Rattle.field.specs.Part.{Wrote};
-ghost use Rattle.session_name.specs.Name.{ending, nameOf, isMax, writeRefusal, kindRead, numberRead, isFramed, nameRead, written, writtenBytes, readSays, writeSays};
+ghost use Rattle.session_name.specs.Name.{ending, nameOf, isMax, writeRefusal, kindRead, numberRead, isFramed, nameRead, written, writtenBytes, paperNameRead, paperNameWritten};
 
 // A request that a program puts on the share, or the response that the machine puts there.
 pub enum Kind {
@@ -44,7 +44,7 @@ fn no_name() -> NameRead
 
 // The name's last four bytes, once its number is read.
 fn kind_read(name: &[u8], number: SessionNumber) -> NameRead
-    ensures { λ r. ⌜ readSays r ≡ kindRead (number .0) (now (name .entry)) ⌝ }
+    ensures { λ r. ⌜ paperNameRead r ≡ kindRead (number .0) (now (name .entry)) ⌝ }
 {
     if field::has_at(name, 8, b".REQ") {
         return NameRead::Named(number, Kind::Request);
@@ -64,7 +64,7 @@ fn is_framed(name: &[u8], max: u32) -> bool
 
 // The rest, once its four digits are read.
 fn number_read(name: &[u8], max: u32, digits: DigitsRead) -> NameRead
-    ensures { λ r. ⌜ readSays r ≡ numberRead max (now (name .entry)) digits ⌝ }
+    ensures { λ r. ⌜ paperNameRead r ≡ numberRead max (now (name .entry)) digits ⌝ }
 {
     let DigitsRead::Value(n) = digits else {
         return no_name();
@@ -78,7 +78,7 @@ fn number_read(name: &[u8], max: u32, digits: DigitsRead) -> NameRead
 
 // Reads the whole of name as a file name of a table with that MaxSessions.
 pub fn read_name(name: &[u8], max: u32) -> NameRead
-    ensures { λ r. ⌜ readSays r ≡ nameRead max (now (name .entry)) ⌝ }
+    ensures { λ r. ⌜ paperNameRead r ≡ nameRead max (now (name .entry)) ⌝ }
 {
     if is_framed(name, max) {
         number_read(name, max, decimal::digits_at(name, 4, 4))
@@ -123,7 +123,7 @@ fn put_name(out: &mut [u8], number: SessionNumber, kind: Kind) -> usize
 
 // Writes the name of a session's file at the start of out. Every other byte of out stays.
 pub fn write_name(number: SessionNumber, kind: Kind, max: u32, out: &mut [u8]) -> NameWritten
-    ensures { λ r. ⌜ (writeSays r ≡ written max (number .0) (now (out .entry))) × (now (out .exit) ≡ writtenBytes max (number .0) kind (now (out .entry))) ⌝ }
+    ensures { λ r. ⌜ (paperNameWritten r ≡ written max (number .0) (now (out .entry))) × (now (out .exit) ≡ writtenBytes max (number .0) kind (now (out .entry))) ⌝ }
 {
     let no = write_refusal(max, number, out.len());
     if no == 0 {

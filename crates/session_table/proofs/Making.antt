@@ -1,4 +1,4 @@
--- Making: the ways through its tests, and what it leaves. Assumes nothing.
+-- Making: the ways through its tests, and what it leaves.
 use Prim.Native.Nat.{ℕ, _≤_}
 use mathlib.Core.Path.{_≡_, refl, _∙_}
 use mathlib.Core.Bool.{true, false}

@@ -1,4 +1,4 @@
--- A call is a verdict and then an effect: what its two halves say together. Assumes nothing.
+-- A call is a verdict and then an effect: what its two halves say together.
 use Prim.Native.Nat.{ℕ}
 use mathlib.Core.Path.{_≡_, refl, _∙_, sym}
 use mathlib.Core.Bool.{Bool, true, false, cond}

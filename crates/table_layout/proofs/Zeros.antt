@@ -1,4 +1,4 @@
--- The loop that clears a table: what it has passed is 0. Assumes nothing.
+-- The loop that clears a table: what it has passed is 0.
 use Prim.Native.Nat.{ℕ, _+_, _<_}
 use mathlib.Core.Path.{_≡_, _∙_, ap, sym}
 use mathlib.Core.List.{List, [], _∷_, _++_}

@@ -1,4 +1,4 @@
--- The string token as the code finds it: by its opening quote, the end e of its content and the byte b there. Assumes nothing.
+-- The string token as the code finds it: by its opening quote, the end e of its content and the byte b there.
 use Prim.Native.Nat.{ℕ, _+_, _-_, _≤_, _<_}
 use mathlib.Core.Path.{_≡_, _∙_, ap}
 use mathlib.Core.Bool.{true}

@@ -24,9 +24,9 @@ abbrev pub Within : List ℕ → ℕ → WordRead → Type 0
 Within s i (Is w e) = (i < e) × (e ≤ length s)
 Within s i NoWord = Unit {0}
 
-pub within : (s : List ℕ) (i : ℕ) → i < length s → isLetter (getD s i 0) ≡ true → Within s i (wordRead s i)
+pub ends-within : (s : List ℕ) (i : ℕ) → i < length s → isLetter (getD s i 0) ≡ true → Within s i (wordRead s i)
 unfolding wordRead
-within s i l e = go (hasAt s i (ascii "TIME>=")) (ltb (i + wordBytes) (runEnd isWordByte s i)) refl
+ends-within s i l e = go (hasAt s i (ascii "TIME>=")) (ltb (i + wordBytes) (runEnd isWordByte s i)) refl
   where
     go : (a b : Bool) → hasAt s i (ascii "TIME>=") ≡ a
         → Within s i (cond a (Is TimeGe (i + 6)) (cond b NoWord (Is (whichWord s i (runEnd isWordByte s i - i)) (runEnd isWordByte s i))))

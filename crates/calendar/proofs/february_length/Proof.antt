@@ -1,4 +1,4 @@
--- `february_length` meets its contract: with `februaryLength` this is what a rule for leap years changes. Assumes nothing.
+-- `february_length` meets its contract: with `februaryLength` this is what a rule for leap years changes.
 use Rattle.laws.proofs.Choose.{choose}
 use Rattle.calendar.specs.Calendar.{februaryLength}
 use Rattle.calendar.proofs.february_length.Statement.{statement}

@@ -1,4 +1,4 @@
--- `is_day` meets its contract. Assumes nothing.
+-- `is_day` meets its contract.
 use Rattle.calendar.proofs.Laws.{early, late}
 use borrow.Author.Needs.{needs}
 use Rattle.calendar.proofs.is_day.Statement.{statement}

@@ -1,4 +1,4 @@
--- `is_real_date` meets its contract: the tests that led to each return decide those of the word. Assumes nothing.
+-- `is_real_date` meets its contract: the tests that led to each return decide those of the word.
 use borrow.Author.Tests.{le-leb, lt-leb}
 use Rattle.calendar.specs.Calendar.{realDate}
 use borrow.Author.Needs.{needs}

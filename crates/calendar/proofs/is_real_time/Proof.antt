@@ -1,4 +1,4 @@
--- `is_real_time` meets its contract: one test in the code, the same test in the word. Assumes nothing.
+-- `is_real_time` meets its contract: one test in the code, the same test in the word.
 use Rattle.laws.proofs.Choose.{choose}
 use Rattle.calendar.specs.Calendar.{realTime}
 use Rattle.calendar.proofs.is_real_time.Statement.{statement}

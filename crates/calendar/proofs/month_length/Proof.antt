@@ -1,4 +1,4 @@
--- `month_length` meets its contract: the tests that led to each return pick the case. Assumes nothing.
+-- `month_length` meets its contract: the tests that led to each return pick the case.
 use Rattle.laws.proofs.Choose.{choose}
 use Rattle.calendar.specs.Calendar.{monthLength}
 use borrow.Author.Needs.{needs}

@@ -1,4 +1,4 @@
--- `item::number_item` meets its contract. Assumes nothing.
+-- `item::number_item` meets its contract.
 use Rattle.item.proofs.Classes.{field-fits, other-length, not-bare, a-date, no-date}
 use denote.Ref.{now}
 use native.Mathlib.Omega.{arith}

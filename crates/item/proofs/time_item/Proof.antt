@@ -1,4 +1,4 @@
--- `item::time_item` meets its contract. Assumes nothing.
+-- `item::time_item` meets its contract.
 use Rattle.item.proofs.Classes.{timed}
 use mathlib.Core.Path.{sym, _∙_}
 use borrow.Author.Needs.{needs}

@@ -1,4 +1,4 @@
--- `item::two_at` meets its contract. Assumes nothing.
+-- `item::two_at` meets its contract.
 use Rattle.item.proofs.Classes.{field-fits}
 use Rattle.item.specs.Tokens.{valueOf}
 use native.Mathlib.Omega.{arith}

@@ -1,4 +1,4 @@
--- `job::fill` meets its contract. Assumes nothing.
+-- `job::fill` meets its contract.
 use Prim.Native.Nat.{_-_, _≤_}
 use mathlib.Core.Path.{_≡_, refl}
 use mathlib.Core.List.{_++_}

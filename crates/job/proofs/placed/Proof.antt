@@ -1,4 +1,4 @@
--- `job::placed` meets its contract. Assumes nothing.
+-- `job::placed` meets its contract.
 use borrow.Author.Needs.{needs}
 use Rattle.job.proofs.placed.Statement.{statement}
 use Rattle.job.proofs.placed.Tie as tie

@@ -1,4 +1,4 @@
--- `job::read_job` meets its contract. Assumes nothing.
+-- `job::read_job` meets its contract.
 use denote.Ref.{now}
 use Rattle.job.proofs.Answers.{both, too-long, taken, crowded, broken, counts, writes}
 use mathlib.Core.Path.{refl}

@@ -1,4 +1,4 @@
--- `job::read_statement` meets its contract. Assumes nothing.
+-- `job::read_statement` meets its contract.
 use Rattle.job.proofs.Fills.{tail-all}
 use Rattle.job.specs.Statement.{readStatement}
 use borrow.Author.Tests.{le-leb, lt-leb}

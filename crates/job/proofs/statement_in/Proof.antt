@@ -1,4 +1,4 @@
--- `job::statement_in` meets its contract. Assumes nothing.
+-- `job::statement_in` meets its contract.
 use borrow.Author.Needs.{needs}
 use Rattle.job.proofs.statement_in.Statement.{statement}
 use Rattle.job.proofs.statement_in.Tie as tie

@@ -1,4 +1,4 @@
--- `job::statements_of` meets its contract. Assumes nothing.
+-- `job::statements_of` meets its contract.
 use Prim.Native.Nat.{_+_, _-_, _≤_}
 use mathlib.Core.Path.{_≡_}
 use mathlib.Core.List.{[]}
@@ -7,7 +7,7 @@ use lib.ListN.{length, take, length-set}
 use borrow.Author.Needs.{needs}
 use Rattle.counts.specs.Limits.{statements}
 use Rattle.job.specs.Loop.{jobLoop}
-use Rattle.job.proofs.Loops.{all-read, stopped, room, within, again}
+use Rattle.job.proofs.Loops.{all-read, stopped, room, in-file, again}
 use Rattle.job.proofs.statements_of.Statement.{statement}
 use Rattle.job.proofs.statements_of.Tie as tie
 
@@ -43,7 +43,7 @@ enum-known-next : tie.Need-enum-known-next Inv-loop μ-loop
 enum-known-next c = search needs
 
 cast-places : tie.Need-cast-places Inv-loop μ-loop
-cast-places c = omega (arith, within _ _ _ _ _ (c .before .before .before .before .before .before .loop .inv .0) (c .before .before .before .before .before .before .loop .inv .1) (c .before .before .before .before .before .before .loop .inv .2) _ (c .before .before .before .before .before .next-item .ensures .is) _ (c .before .before .before .before .step-of .ensures) _ (c .before .before .next .given .1))
+cast-places c = omega (arith, in-file _ _ _ _ _ (c .before .before .before .before .before .before .loop .inv .0) (c .before .before .before .before .before .before .loop .inv .1) (c .before .before .before .before .before .before .loop .inv .2) _ (c .before .before .before .before .before .next-item .ensures .is) _ (c .before .before .before .before .step-of .ensures) _ (c .before .before .next .given .1))
 
 mul-places : tie.Need-mul-places Inv-loop μ-loop
 mul-places c = omega (arith, room _ _ _ _ _ (c .before .before .before .before .before .before .loop .inv .0) (c .before .before .before .before .before .before .loop .inv .1) (c .before .before .before .before .before .before .loop .inv .2) _ (c .before .before .before .before .before .next-item .ensures .is) _ (c .before .before .before .before .step-of .ensures) _ (c .before .before .next .given .1))

@@ -1,4 +1,4 @@
--- `job::step_into` meets its contract. Assumes nothing.
+-- `job::step_into` meets its contract.
 use Rattle.laws.proofs.Choose.{choose}
 use Rattle.job.specs.Loop.{stepInto}
 use borrow.Author.Needs.{needs}

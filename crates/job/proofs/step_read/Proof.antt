@@ -1,4 +1,4 @@
--- `job::step_read` meets its contract. Assumes nothing.
+-- `job::step_read` meets its contract.
 use borrow.Author.Needs.{needs}
 use Rattle.job.proofs.step_read.Statement.{statement}
 use Rattle.job.proofs.step_read.Tie as tie

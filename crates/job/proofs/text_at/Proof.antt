@@ -1,4 +1,4 @@
--- `job::text_at` meets its contract. Assumes nothing.
+-- `job::text_at` meets its contract.
 use Rattle.token.proofs.Ahead.{text-inside}
 use Rattle.token.specs.Token.{contentAt}
 use native.Mathlib.Omega.{arith}

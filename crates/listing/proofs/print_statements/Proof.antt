@@ -1,4 +1,4 @@
--- `print_statements` is safe and ends: k counts up to count. Assumes nothing.
+-- `print_statements` is safe and ends: k counts up to count.
 use Prim.Native.Nat.{_-_, _≤_}
 use borrow.Author.Needs.{needs}
 use Rattle.listing.proofs.print_statements.Statement.{statement}

@@ -1,4 +1,4 @@
--- `read_rest` is safe and ends: left counts down. Assumes nothing.
+-- `read_rest` is safe and ends: left counts down.
 use mathlib.Core.Path.{_≡_}
 use lib.ListN.{length}
 use borrow.Author.Needs.{needs}

@@ -1,4 +1,4 @@
--- `number::number_at` meets its contract. Assumes nothing.
+-- `number::number_at` meets its contract.
 use Rattle.number.proofs.Digits.{is-number}
 use mir.ValLaws.{toZ-ofZ}
 use mir.Syntax.{w64}

@@ -1,4 +1,4 @@
--- `number::scale` meets its contract. Assumes nothing.
+-- `number::scale` meets its contract.
 use Prim.Native.Nat.{_+_, _-_, _≤_}
 use mathlib.Core.Path.{_≡_}
 use Rattle.field.specs.Part.{part}

@@ -1,4 +1,4 @@
--- `number::signed` meets its contract. Assumes nothing.
+-- `number::signed` meets its contract.
 use native.Mathlib.Omega.{arith}
 use lib.IntN.{pos, negℤ}
 use mir.Syntax.{w64}

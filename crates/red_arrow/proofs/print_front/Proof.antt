@@ -1,4 +1,4 @@
--- `print_front` is safe: the test before it keeps the part within the reply. Assumes nothing.
+-- `print_front` is safe: the test before it keeps the part within the reply.
 use native.Mathlib.Omega.{arith}
 use lib.ListN.{length-take}
 use borrow.Author.Needs.{needs}

@@ -1,4 +1,4 @@
--- `scan::comment_at` meets its contract. Assumes nothing.
+-- `scan::comment_at` meets its contract.
 use Rattle.laws.proofs.Choose.{choose}
 use borrow.Author.Needs.{needs}
 use Rattle.scan.proofs.comment_at.Statement.{statement}

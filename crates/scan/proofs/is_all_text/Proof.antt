@@ -1,4 +1,4 @@
--- `scan::is_all_text` meets its contract: at every turn it is known whether the run has ended before i. Assumes nothing.
+-- `scan::is_all_text` meets its contract: at every turn it is known whether the run has ended before i.
 use Prim.Native.Nat.{_-_, _≤_}
 use native.Mathlib.Omega.{arith}
 use lib.ListN.{length}

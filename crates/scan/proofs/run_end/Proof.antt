@@ -1,4 +1,4 @@
--- `scan::run_end` meets its contract: the run's end from i is the run's end from at. Assumes nothing.
+-- `scan::run_end` meets its contract: the run's end from i is the run's end from at.
 use Prim.Native.Nat.{_-_, _≤_}
 use Prim.Native.Nat.{max}
 use mathlib.Core.Path.{_≡_}

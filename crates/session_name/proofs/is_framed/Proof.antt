@@ -1,4 +1,4 @@
--- `is_framed` meets its contract: one test in the code, the same test in the word. Assumes nothing.
+-- `is_framed` meets its contract: one test in the code, the same test in the word.
 use Rattle.session_name.proofs.Says.{names}
 use borrow.Author.Needs.{needs}
 use Rattle.session_name.proofs.is_framed.Statement.{statement}

@@ -1,4 +1,4 @@
--- `kind_read` meets its contract: the comparison that led to each return picks the case. Assumes nothing.
+-- `kind_read` meets its contract: the comparison that led to each return picks the case.
 use Rattle.session_name.proofs.Says.{names}
 use Rattle.session_name.specs.Name.{kindRead}
 use borrow.Author.Needs.{needs}

@@ -1,4 +1,4 @@
--- `number_read` meets its contract: what the digits were picks the case. Assumes nothing.
+-- `number_read` meets its contract: what the digits were picks the case.
 use Rattle.session_name.proofs.Says.{names}
 use Rattle.session_name.specs.Name.{numberRead}
 use borrow.Author.Needs.{needs}

@@ -1,4 +1,4 @@
--- `put_ending` meets its contract, by the two kinds. Assumes nothing.
+-- `put_ending` meets its contract, by the two kinds.
 use borrow.Author.Needs.{needs}
 use Rattle.session_name.proofs.put_ending.Statement.{statement}
 use Rattle.session_name.proofs.put_ending.Tie as tie

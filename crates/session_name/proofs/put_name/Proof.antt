@@ -1,4 +1,4 @@
--- `put_name` meets its contract: three writes, each where the one before ended. Assumes nothing.
+-- `put_name` meets its contract: three writes, each where the one before ended.
 use native.Mathlib.Omega.{arith}
 use Rattle.field.proofs.Put.{then, wrote-length}
 use Rattle.decimal.proofs.Laws.{length-digits}

@@ -1,4 +1,4 @@
--- `read_name` meets its contract: its callees read the parts of the name in the order of the word. Assumes nothing.
+-- `read_name` meets its contract: its callees read the parts of the name in the order of the word.
 use Rattle.session_name.proofs.Says.{names}
 use Rattle.session_name.specs.Name.{nameRead}
 use borrow.Author.Needs.{needs}

@@ -1,4 +1,4 @@
--- `write_name` meets its contract: the refusal, or the write. Assumes nothing.
+-- `write_name` meets its contract: the refusal, or the write.
 use mathlib.Core.Path.{sym, _∙_}
 use denote.Ref.{now}
 use Rattle.session_name.proofs.Writing.{not-refused, wrote-name, refused-name}

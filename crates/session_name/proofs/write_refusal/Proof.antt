@@ -1,4 +1,4 @@
--- `write_refusal` meets its contract: the tests that led to each return pick the case. Assumes nothing.
+-- `write_refusal` meets its contract: the tests that led to each return pick the case.
 use Rattle.session_name.proofs.Says.{names}
 use Rattle.session_name.specs.Name.{writeRefusal}
 use borrow.Author.Needs.{needs}

@@ -1,4 +1,4 @@
--- `token::is_number` meets its contract. Assumes nothing.
+-- `token::is_number` meets its contract.
 use Rattle.laws.proofs.Choose.{choose}
 use Rattle.token.specs.Token.{isNumberAt}
 use borrow.Author.Needs.{needs}

@@ -1,4 +1,4 @@
--- `token::is_text` meets its contract. Assumes nothing.
+-- `token::is_text` meets its contract.
 use lib.ListN.{List·getD-eq-default}
 use denote.Ref.{now}
 use borrow.Author.Tests.{eq-eqb, ne-eqb}

@@ -1,4 +1,4 @@
--- `token::is_time` meets its contract. Assumes nothing.
+-- `token::is_time` meets its contract.
 use Rattle.token.specs.Token.{isTimeAt}
 use Prim.Native.Nat.{ℕ}
 use mathlib.Core.Path.{_≡_, ap}

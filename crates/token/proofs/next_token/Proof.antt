@@ -1,4 +1,4 @@
--- `token::next_token` meets its contract. Assumes nothing.
+-- `token::next_token` meets its contract.
 use Rattle.laws.proofs.Choose.{choose}
 use Rattle.token.specs.Token.{nextToken}
 use borrow.Author.Needs.{needs}

@@ -1,4 +1,4 @@
--- `token::numeric_token` meets its contract. Assumes nothing.
+-- `token::numeric_token` meets its contract.
 use Rattle.laws.proofs.Choose.{choose}
 use Rattle.token.specs.Token.{numericAt}
 use borrow.Author.Needs.{needs}

@@ -1,4 +1,4 @@
--- `token::one_sign` meets its contract. Assumes nothing.
+-- `token::one_sign` meets its contract.
 use Rattle.laws.proofs.Choose.{choose}
 use borrow.Author.Needs.{needs}
 use Rattle.token.proofs.one_sign.Statement.{statement}

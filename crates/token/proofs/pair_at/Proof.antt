@@ -1,4 +1,4 @@
--- `token::pair_at` meets its contract. Assumes nothing.
+-- `token::pair_at` meets its contract.
 use Rattle.laws.proofs.Choose.{choose}
 use borrow.Author.Needs.{needs}
 use Rattle.token.proofs.pair_at.Statement.{statement}

@@ -1,4 +1,4 @@
--- `token::shaped_token` meets its contract. Assumes nothing.
+-- `token::shaped_token` meets its contract.
 use Rattle.laws.proofs.Choose.{choose}
 use Rattle.token.specs.Token.{shapedAt}
 use borrow.Author.Needs.{needs}

@@ -1,4 +1,4 @@
--- `token::sign_before_equal` meets its contract. Assumes nothing.
+-- `token::sign_before_equal` meets its contract.
 use Rattle.laws.proofs.Choose.{choose}
 use borrow.Author.Needs.{needs}
 use Rattle.token.proofs.sign_before_equal.Statement.{statement}

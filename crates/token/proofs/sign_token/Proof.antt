@@ -1,4 +1,4 @@
--- `token::sign_token` meets its contract. Assumes nothing.
+-- `token::sign_token` meets its contract.
 use Rattle.laws.proofs.Choose.{choose}
 use Rattle.token.specs.Token.{signAt}
 use borrow.Author.Needs.{needs}

@@ -1,4 +1,4 @@
--- `token::text_token` meets its contract. Assumes nothing.
+-- `token::text_token` meets its contract.
 use borrow.Author.Needs.{needs}
 use Rattle.token.proofs.Strings.{string}
 use Rattle.token.proofs.text_token.Statement.{statement}

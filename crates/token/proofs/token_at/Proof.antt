@@ -1,4 +1,4 @@
--- `token::token_at` meets its contract. Assumes nothing.
+-- `token::token_at` meets its contract.
 use Rattle.laws.proofs.Choose.{choose}
 use Rattle.token.specs.Token.{tokenAt}
 use borrow.Author.Needs.{needs}

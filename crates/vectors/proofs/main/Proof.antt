@@ -1,4 +1,4 @@
--- `main` is safe and ends: i counts up to the arguments. Assumes nothing.
+-- `main` is safe and ends: i counts up to the arguments.
 use Prim.Native.Nat.{_-_, _≤_}
 use borrow.Author.Needs.{needs}
 use Rattle.vectors.proofs.main.Statement.{statement}

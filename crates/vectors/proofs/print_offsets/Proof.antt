@@ -1,4 +1,4 @@
--- `print_offsets` is safe and ends: k counts up to count. Assumes nothing.
+-- `print_offsets` is safe and ends: k counts up to count.
 use Prim.Native.Nat.{_-_, _≤_}
 use borrow.Author.Needs.{needs}
 use Rattle.vectors.proofs.print_offsets.Statement.{statement}
