@@ -67,7 +67,7 @@ transferred m start = cond (m .download) (Download (m .file) (m .source) start) 
 abbrev pub transfer : Bool → ℕ → Source → Transfer
 transfer down file source = record { download = down; file = file; source = source }
 
--- of a statement that is not whole, at each of its points
+-- what the tokens before a point have given, of a statement that is not whole
 abbrev pub Begun : Point → Type 0
 Begun first = Unit {0}
 Begun between = Unit {0}
@@ -90,6 +90,7 @@ Begun ending = Statement
 Begun done = Unit {0}
 Begun dead = Unit {0}
 
+-- after its `;` it is whole
 abbrev pub Held : Point → Type 0
 Held q = cond (isPoint q done) Statement (Begun q)
 
@@ -105,20 +106,24 @@ valued v t (m, n, o) = transferred m (condition n o (v t))
 abbrev addsNoClause : Each (Adds moveStart) noClause
 addsNoClause = (λ t m. transferred m Immediate, tt)
 
--- in the order of the edges
+-- in the order of the edges of `next`
 abbrev pub adds : (q : Point) → Each (Adds q) (next q)
 adds first = (λ t h. tt, tt)
+-- false for UPLOAD, true for DOWNLOAD
 adds between = (λ t h. false, (λ t h. true, (λ t h. tt, (λ t h. tt, tt))))
 adds statement = (λ t h. tt, (λ t h. false, (λ t h. true, (λ t h. tt, (λ t h. tt, tt)))))
+-- JOB, name, RESPONSE, file spec.
 adds jobName = (λ t h. partOf t, tt)
 adds jobResponse = (λ t n. n, tt)
 adds jobFile = (λ t n. Job n (t .place), tt)
+-- UPLOAD or DOWNLOAD, file spec, then ACTIVE or a file spec or a name, then an optional start clause.
 adds moveFile = (λ t down. (down, t .place), tt)
 adds moveSource = (
   λ t h. transfer (h .0) (h .1) Active,
   (λ t h. transfer (h .0) (h .1) (File (t .place)), (λ t h. transfer (h .0) (h .1) (Name (partOf t)), tt)),
 )
 adds moveStart = (λ t m. m, addsNoClause)
+-- START IMMEDIATE; START TIME>= time with an optional date; START name, operator, then number or string.
 adds startKind = (λ t m. transferred m Immediate, (λ t m. m, (λ t m. (m, partOf t), tt)))
 adds startTime = (λ t m. (m, t .value), tt)
 adds startDate = (λ t h. transferred (h .0) (At (h .1) (On (t .value))), (λ t h. transferred (h .0) (At (h .1) Any), tt))
@@ -127,7 +132,9 @@ adds startValue = (
   valued (λ t. Number (t .number)),
   (valued (λ t. Number (t .number)), (valued (λ t. Number (t .number)), (valued (λ t. Text (t .place)), tt))),
 )
+-- GETINFO, file spec.
 adds infoFile = (λ t h. GetInfo (t .place), tt)
+-- ABORT, then REPORT or EVENT, then a name.
 adds abortKind = (λ t h. Report, (λ t h. Event, tt))
 adds abortName = (λ t what. Abort what (partOf t), tt)
 adds ending = (λ t x. x, tt)
