@@ -1,4 +1,4 @@
--- The laws that a loop cites: over a test of every number below n, over a search for the lowest, over the first n values. Assumes nothing.
+-- The laws that a loop cites: over a test of every number below n, over a search for the lowest, over the first n values.
 use Prim.Native.Nat.{ℕ, zero, suc, _+_, _<_}
 use mathlib.Core.Path.{_≡_, refl, sym, _∙_, ap}
 use mathlib.Core.Bool.{Bool, true, false, _&&_, and-false, and-true, and-assoc}

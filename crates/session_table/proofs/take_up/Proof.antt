@@ -1,4 +1,4 @@
--- `session_table::take_up` meets its contract. Assumes nothing.
+-- `session_table::take_up` meets its contract.
 use mathlib.Core.Path.{refl, _∙_, ap, sym}
 use native.Mathlib.Omega.{arith}
 use Rattle.table_layout.specs.Layout.{tableOf}

@@ -1,4 +1,4 @@
--- `session_table::take_up_at` meets its contract. Assumes nothing.
+-- `session_table::take_up_at` meets its contract.
 use native.Mathlib.Omega.{arith}
 use Rattle.table_search.proofs.Sounds.{sound-size, waits}
 use Rattle.session_table.proofs.Turns.{take-up-sound, given-leaves}

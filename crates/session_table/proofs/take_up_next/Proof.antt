@@ -1,4 +1,4 @@
--- `session_table::take_up_next` meets its contract. Assumes nothing.
+-- `session_table::take_up_next` meets its contract.
 use native.Mathlib.Omega.{arith}
 use Rattle.table_search.proofs.Sounds.{sound-limited}
 use Rattle.table_search.proofs.Tests.{found-at, found-none}
