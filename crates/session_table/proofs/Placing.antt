@@ -102,7 +102,7 @@ module _ (b : List ℕ) (p n : ℕ) where
 
   -- what code writes where the number s is open and a ticket is left
   module _ (sound : soundBytes b ≡ true) (range : ranges ≡ true) (s : ℕ) (found : openIn b ≡ at s)
-    (last : ℕ) (q : last ≡ number b lastAt) (room : last < ticketMost) where
+      (last : ℕ) (q : last ≡ number b lastAt) (room : last < ticketMost) where
     its : Placeable
     its = placeable-at sound range s found (omega arith)
 

@@ -44,21 +44,22 @@ module _ (h : Head) (answer : ℕ → Answer) where
       go true = refl
       go false = refl
 
-  pub waiting-is : (not (eqb (h .taken) 0) && ltb (h .answered) (h .count)) ≡ isWaiting (told h answer)
-  unfolding told isWaiting
-  waiting-is = go (eqb (h .taken) 0)
+  -- a test that no open number passes
+  if-taken : (test : Session → Bool) {r : Bool} → test noSession ≡ false → r ≡ test (sessionOf h answer) → (not (eqb (h .taken) 0) && r) ≡ test (told h answer)
+  unfolding told
+  if-taken test {r} fails e = go (eqb (h .taken) 0)
     where
-      go : (t : Bool) → (not t && ltb (h .answered) (h .count)) ≡ isWaiting (cond t noSession (sessionOf h answer))
-      go true = refl
-      go false = rw told-answers
+      go : (t : Bool) → (not t && r) ≡ test (cond t noSession (sessionOf h answer))
+      go true = sym fails
+      go false = e
+
+  pub waiting-is : (not (eqb (h .taken) 0) && ltb (h .answered) (h .count)) ≡ isWaiting (told h answer)
+  unfolding isWaiting
+  waiting-is = if-taken isWaiting refl (rw told-answers)
 
   pub closed-is : (not (eqb (h .taken) 0) && eqb (h .answered) (h .count)) ≡ isClosed (told h answer)
-  unfolding told isClosed
-  closed-is = go (eqb (h .taken) 0)
-    where
-      go : (t : Bool) → (not t && eqb (h .answered) (h .count)) ≡ isClosed (cond t noSession (sessionOf h answer))
-      go true = refl
-      go false = rw told-answers
+  unfolding isClosed
+  closed-is = if-taken isClosed refl (rw told-answers)
 
   pub ready-is : (p t : ℕ) (closed : Bool) → closed ≡ isClosed (told h answer)
       → (eqb (h .program) p && eqb (h .ticket .0) t && closed) ≡ isReady p t (told h answer)

@@ -47,7 +47,7 @@ differs-is b i t l = go (ltb i sessions) (eqb (headOf b i .taken) 0)
 -- ---- one slot
 
 module _ {b : List ℕ} {t : Table} {s : ℕ} {h : Head} {seen : List ℕ}
-  (pre : (length b ≡ tableBytes) × (s < sessions) × (t ≡ tableOf b) × (h ≡ headOf b s) × Seen b s seen) where
+    (pre : (length b ≡ tableBytes) × (s < sessions) × (t ≡ tableOf b) × (h ≡ headOf b s) × Seen b s seen) where
   its-slot : slotOf b s ≡ told h (entryOf b s)
   its-slot = slot-told b s (pre .1) ∙ ap (λ x. told x (entryOf b s)) (sym (pre .3))
 
@@ -154,7 +154,7 @@ module _ (b : List ℕ) where
   sound-no-size n = rw (ne-eqb (length b) tableBytes n)
 
   module _ (size : length b ≡ tableBytes) (t : Table) (p : t ≡ tableOf b)
-    (limits-ok : Bool) (limits-said : limits-ok ≡ (within 1 (t .max) sessions && ltb (t .mark .0) (t .max))) where
+      (limits-ok : Bool) (limits-said : limits-ok ≡ (within 1 (t .max) sessions && ltb (t .mark .0) (t .max))) where
     sound-is : soundBytes b ≡ (limits-ok && all sessions (λ s. slotSound (abs b) s (slotOf b s)) && handSound (abs b) (handOf (t .hand)))
     unfolding soundBytes sound maxInRange markBelow tableOf
     sound-is = rw (eq-eqb (length b) tableBytes size, limits-said, p)

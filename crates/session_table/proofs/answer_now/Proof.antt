@@ -20,9 +20,13 @@ answer-slot-requires : tie.Need-answer-slot-requires
 unfolding tableOf
 answer-slot-requires c κs = let i =
     in-hand _ _ (ap (λ x. x .hand) (c .before .get-table .ensures)) ((answerable _ _ _ _ (c .before .before .before .before .pre)) .sound)
-    (answer-hand _ _ _ _ (answerable _ _ _ _ (c .before .before .before .before .pre)) _ (ap (λ x. x .hand) (c .before .get-table .ensures))) in
-    (sound-size _ ((answerable _ _ _ _ (c .before .before .before .before .pre)) .sound), i .stands-there .below, i .answers-few, kind-fits _
-    ((answerable _ _ _ _ (c .before .before .before .before .pre)) .in-range))
+    (answer-hand _ _ _ _ (answerable _ _ _ _ (c .before .before .before .before .pre)) _ (ap (λ x. x .hand) (c .before .get-table .ensures))) in (
+      sound-size _ ((answerable _ _ _ _ (c .before .before .before .before .pre)) .sound),
+      i .stands-there .below,
+      i .answers-few,
+      kind-fits _
+          ((answerable _ _ _ _ (c .before .before .before .before .pre)) .in-range),
+    )
 
 put-hand-requires : tie.Need-put-hand-requires
 put-hand-requires c κs = let z =

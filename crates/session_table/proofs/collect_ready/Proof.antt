@@ -55,8 +55,13 @@ returns-2 c =
     (c .before .before .before .before .before .before .before .s .given .1) in
     collect-refuses _ _ _ _ _
     (collect-8 _ _ _ _ (pre .0) (pre .1) _ found
-    (omega (arith, c .before .if1 .taken, c .before .before .reply-length .ensures, ap length
-    (ready-reply _ _ _ (pre .0) (pre .1) _ found _ (c .before .before .before .before .get-head .ensures)))))
+    (omega (
+      arith,
+      c .before .if1 .taken,
+      c .before .before .reply-length .ensures,
+      ap length
+          (ready-reply _ _ _ (pre .0) (pre .1) _ found _ (c .before .before .before .before .get-head .ensures)),
+    )))
     _ _ refl (c .plain2 .ensures) (λ z. omega arith)
 
 write-reply-requires : tie.Need-write-reply-requires
@@ -64,9 +69,13 @@ write-reply-requires c κs =
     let pre = c .before .before .before .before .before .before .before .before .before .before .before .before .before .before .pre in
     let found = found-at _ _ (c .before .before .before .before .before .before .before .before .before .before .ready-session .ensures) _
     (c .before .before .before .before .before .before .before .before .s .given .1) in
-    let head = c .before .before .before .before .before .get-head .ensures in
-    (sound-size _ (pre .0), ready-stands _ _ _ (pre .0) (pre .1) _ found .below, ready-few _ _ _ (pre .0) (pre .1) _ found _ head,
-    ready-real _ _ _ (pre .0) (pre .1) _ found _ head, omega (arith, c .before .before .if1 .left, c .before .before .before .reply-length .ensures))
+    let head = c .before .before .before .before .before .get-head .ensures in (
+      sound-size _ (pre .0),
+      ready-stands _ _ _ (pre .0) (pre .1) _ found .below,
+      ready-few _ _ _ (pre .0) (pre .1) _ found _ head,
+      ready-real _ _ _ (pre .0) (pre .1) _ found _ head,
+      omega (arith, c .before .before .if1 .left, c .before .before .before .reply-length .ensures),
+    )
 
 open-number-requires : tie.Need-open-number-requires
 open-number-requires c κs =
@@ -90,8 +99,12 @@ returns-3 c =
     let reply = ready-reply _ _ _ (pre .0) (pre .1) _ found _
     (c .before .before .before .before .before .before .before .before .before .before .before .before .get-head .ensures) in
     collects-is _ _ _ _ (collectable-at _ _ _ _ (pre .0) (pre .1) _ found
-    (omega (arith, c .before .before .before .before .before .before .before .before .before .if1 .left,
-    c .before .before .before .before .before .before .before .before .before .before .reply-length .ensures, ap length reply)))
+    (omega (
+      arith,
+      c .before .before .before .before .before .before .before .before .before .if1 .left,
+      c .before .before .before .before .before .before .before .before .before .before .reply-length .ensures,
+      ap length reply,
+    )))
     _ (found-number _ found) _ _ _ reply (c .before .before .before .before .before .before .write-reply .ensures) (c .before .before .open-number .ensures)
 
 pub collect-ready-spec : {M : Type 1} → statement M

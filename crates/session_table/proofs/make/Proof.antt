@@ -16,8 +16,11 @@ same-length : tie.Need-same-length
 same-length c = search needs
 
 returns : tie.Need-returns
-returns c = (make-says _ _ (c .before .before .before .before .before .make-refusal .result)
-    (c .before .before .before .before .before .make-refusal .ensures) _ (c .make-answer .ensures), c .before .before .before .make-now .ensures)
+returns c = (
+  make-says _ _ (c .before .before .before .before .before .make-refusal .result)
+      (c .before .before .before .before .before .make-refusal .ensures) _ (c .make-answer .ensures),
+  c .before .before .before .make-now .ensures,
+)
 
 pub make-spec : {M : Type 1} → statement M
 make-spec = tie.close (tie.spec make-refusal-requires make-now-requires make-answer-requires same-length returns)

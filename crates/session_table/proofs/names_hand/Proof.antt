@@ -18,9 +18,11 @@ sub-t8 c = search needs
 
 get-head-requires : tie.Need-get-head-requires
 unfolding tableOf
-get-head-requires c κs =
-    (sound-size _ (c .before .before .before .pre), in-hand _ _ (ap (λ x. x .hand) (c .before .get-table .ensures)) (c .before .before .before .pre)
-    (c .if1 .left) .stands-there .below)
+get-head-requires c κs = (
+  sound-size _ (c .before .before .before .pre),
+  in-hand _ _ (ap (λ x. x .hand) (c .before .get-table .ensures)) (c .before .before .before .pre)
+      (c .if1 .left) .stands-there .below,
+)
 
 names-requires : tie.Need-names-requires
 unfolding tableOf

@@ -12,9 +12,11 @@ is-placeable-requires : tie.Need-is-placeable-requires
 is-placeable-requires c κs = search needs
 
 place-lowest-requires : tie.Need-place-lowest-requires
-place-lowest-requires c κs =
-    ((sym (c .before .before .before .before .is-sound .ensures) ∙ c .before .before .before .if1 .taken), sym (c .before .before .is-placeable .ensures)
-    ∙ c .before .if2 .taken)
+place-lowest-requires c κs = (
+  (sym (c .before .before .before .before .is-sound .ensures) ∙ c .before .before .before .if1 .taken),
+  sym (c .before .before .is-placeable .ensures)
+      ∙ c .before .if2 .taken,
+)
 
 same-length : tie.Need-same-length
 same-length c = search needs

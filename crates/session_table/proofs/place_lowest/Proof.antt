@@ -56,11 +56,13 @@ placed-requires : tie.Need-placed-requires
 placed-requires c κs = search needs
 
 put-head-requires : tie.Need-put-head-requires
-put-head-requires c κs =
-    (sound-size _ (c .before .before .before .before .before .before .before .before .before .before .before .before .before .before .pre .0), place-below _
-    (c .before .before .before .before .before .before .before .before .before .before .before .before .before .before .pre .0) _
-    (found-at _ _ (c .before .before .before .before .before .before .before .before .before .before .before .lowest-open .ensures) _
-    (c .before .before .before .before .before .before .before .before .before .s .given .1)))
+put-head-requires c κs = (
+  sound-size _ (c .before .before .before .before .before .before .before .before .before .before .before .before .before .before .pre .0),
+  place-below _
+      (c .before .before .before .before .before .before .before .before .before .before .before .before .before .before .pre .0) _
+      (found-at _ _ (c .before .before .before .before .before .before .before .before .before .before .before .lowest-open .ensures) _
+      (c .before .before .before .before .before .before .before .before .before .s .given .1)),
+)
 
 put-last-requires : tie.Need-put-last-requires
 put-last-requires c κs =
@@ -80,11 +82,12 @@ returns-3 c =
     (c .before .before .before .before .before .before .before .before .before .before .before .before .before .before .before .before .s .given .1) in
     let last = ap (λ x. x .last .0)
     (c .before .before .before .before .before .before .before .before .before .before .before .before .before .get-table .ensures) in
-    let room = c .before .before .before .before .before .before .before .before .before .before .if1 .left in
-    (place-gives _ _ _ (pre .0) (pre .1) _ found _ last room,
-    place-writes _ _ _ (pre .0) (pre .1) _ found _ last room _ _ _
-    (c .before .before .before .before .before .before .before .placed .ensures) (c .before .before .before .before .before .before .put-head .ensures)
-    (c .before .before .put-last .ensures))
+    let room = c .before .before .before .before .before .before .before .before .before .before .if1 .left in (
+      place-gives _ _ _ (pre .0) (pre .1) _ found _ last room,
+      place-writes _ _ _ (pre .0) (pre .1) _ found _ last room _ _ _
+          (c .before .before .before .before .before .before .before .placed .ensures) (c .before .before .before .before .before .before .put-head .ensures)
+          (c .before .before .put-last .ensures),
+    )
 
 pub place-lowest-spec : {M : Type 1} → statement M
 place-lowest-spec =

@@ -16,8 +16,11 @@ get-table-requires c κs = sound-size _ (sym (c .before .before .is-sound .ensur
 
 take-up-next-requires : tie.Need-take-up-next-requires
 unfolding tableOf
-take-up-next-requires c κs = (sym (c .before .before .before .before .before .is-sound .ensures) ∙ c .before .before .before .before .if1 .taken, sym
-    (ap (λ x. x .hand) (c .before .before .get-table .ensures)) ∙ c .before .if2 .taken)
+take-up-next-requires c κs = (
+  sym (c .before .before .before .before .before .is-sound .ensures) ∙ c .before .before .before .before .if1 .taken,
+  sym
+      (ap (λ x. x .hand) (c .before .before .get-table .ensures)) ∙ c .before .if2 .taken,
+)
 
 same-length : tie.Need-same-length
 same-length c = search needs

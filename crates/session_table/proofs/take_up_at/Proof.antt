@@ -14,8 +14,11 @@ put-mark-requires c κs = sound-size _ (take-up-sound _ (c .before .before .befo
 
 add-put-hand : tie.Need-add-put-hand
 add-put-hand c =
-    omega (arith, waits _ (take-up-sound _ (c .before .before .before .before .before .before .before .before .before .pre .0)) _
-    (c .before .before .before .before .before .before .before .before .before .pre .2) .stands-there .below)
+    omega (
+      arith,
+      waits _ (take-up-sound _ (c .before .before .before .before .before .before .before .before .before .pre .0)) _
+          (c .before .before .before .before .before .before .before .before .before .pre .2) .stands-there .below,
+    )
 
 put-hand-requires : tie.Need-put-hand-requires
 put-hand-requires c κs = let z =

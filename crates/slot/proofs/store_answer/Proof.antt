@@ -1,6 +1,5 @@
 -- `slot::store_answer` meets its contract: a walk of its MIR, by hand. The borrow is opened, the slot is copied out and handed to `with_answer`, and the borrow is closed at the slot that comes back.
 -- All that the proof knows of `with_answer` is that it meets its contract. No field of a slot is named, so a new field changes nothing here.
---
 use mathlib.Core.Path.{_≡_, refl}
 use Prim.Native.Nat.{ℕ, _<_}
 use Rattle.counts.specs.Limits.{commands}

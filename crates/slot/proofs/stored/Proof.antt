@@ -1,6 +1,5 @@
 -- `slot::stored` meets its contract: a walk of its MIR, by hand. The slot is copied to a local, the local is lent to `store_answer` for a lifetime that is made for the call, and it comes back at its last value, which is returned.
 -- All that the proof knows of `store_answer` is that it meets its contract. No field of a slot is named.
---
 use mathlib.Core.Path.{_≡_, refl, sym, ap, subst}
 use Prim.Native.Nat.{ℕ, _<_}
 use Rattle.counts.specs.Limits.{commands}

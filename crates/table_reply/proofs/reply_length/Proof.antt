@@ -36,9 +36,16 @@ loop-less : tie.Need-loop-less Inv-loop μ-loop
 loop-less c = omega arith
 
 loop-again : tie.Need-loop-again Inv-loop μ-loop
-loop-again c = (omega arith, omega (arith, small (c .before .get-entry .result .outcome) (c .before .before .before .loop .i) _ (omega arith)
-    (c .record-length .ensures)), length-more _ _ _ _ _ _ (c .before .before .before .loop .inv .2) (ap (λ x. x .outcome) (c .before .get-entry .ensures))
-    (c .record-length .ensures))
+loop-again c = (
+  omega arith,
+  omega (
+    arith,
+    small (c .before .get-entry .result .outcome) (c .before .before .before .loop .i) _ (omega arith)
+        (c .record-length .ensures),
+  ),
+  length-more _ _ _ _ _ _ (c .before .before .before .loop .inv .2) (ap (λ x. x .outcome) (c .before .get-entry .ensures))
+      (c .record-length .ensures),
+)
 
 returns : tie.Need-returns Inv-loop μ-loop
 returns c = length-all _ _ (omega arith) (c .before .loop .inv .2)

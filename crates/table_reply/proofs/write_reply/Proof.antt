@@ -36,8 +36,11 @@ loop-less : tie.Need-loop-less Inv-loop μ-loop
 loop-less c = omega arith
 
 loop-again : tie.Need-loop-again Inv-loop μ-loop
-loop-again c = (omega arith, wrote-more _ _ _ _ _ _ (c .before .before .before .get-entry .ensures)
-    (c .before .before .before .before .before .before .loop .inv .1) (c .before .before .put-answer .ensures))
+loop-again c = (
+  omega arith,
+  wrote-more _ _ _ _ _ _ (c .before .before .before .get-entry .ensures)
+      (c .before .before .before .before .before .before .loop .inv .1) (c .before .before .put-answer .ensures),
+)
 
 same-length : tie.Need-same-length Inv-loop μ-loop
 same-length c = wrote-length (c .before .loop .inv .1)

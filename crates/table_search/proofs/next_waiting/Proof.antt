@@ -56,13 +56,17 @@ loop-less : tie.Need-loop-less Inv-loop μ-loop
 loop-less c = omega arith
 
 loop-again : tie.Need-loop-again Inv-loop μ-loop
-loop-again c =
-    (omega arith, c .before .before .before .before .before .loop .inv .1, c .before .before .before .before .before .loop .inv .2, find-more _
-    (c .before .before .before .before .before .loop .inv .3)
-    (waiting-in-turn _ _ (c .before .before .before .before .before .loop .inv .1) _ _ (c .before .before .before .in-turn .ensures .0)
-    (asked _ _ _ (c .before .before .get-head .ensures) (omega
-    (arith, c .before .before .before .in-turn .ensures .1, c .before .before .before .before .before .before .before .before .pre .limit)) isWaiting
-    (c .before .is-waiting .ensures) (c .if1 .left))))
+loop-again c = (
+  omega arith,
+  c .before .before .before .before .before .loop .inv .1,
+  c .before .before .before .before .before .loop .inv .2,
+  find-more _
+      (c .before .before .before .before .before .loop .inv .3)
+      (waiting-in-turn _ _ (c .before .before .before .before .before .loop .inv .1) _ _ (c .before .before .before .in-turn .ensures .0)
+      (asked _ _ _ (c .before .before .get-head .ensures) (omega
+      (arith, c .before .before .before .in-turn .ensures .1, c .before .before .before .before .before .before .before .before .pre .limit)) isWaiting
+      (c .before .is-waiting .ensures) (c .if1 .left))),
+)
 
 returns-2 : tie.Need-returns-2 Inv-loop μ-loop
 returns-2 c = sym (ap (turned (abs _)) (find-end _ (c .before .loop .inv .3) (omega arith)))

@@ -44,10 +44,13 @@ loop-less : tie.Need-loop-less Inv-loop μ-loop
 loop-less c = omega arith
 
 loop-again : tie.Need-loop-again Inv-loop μ-loop
-loop-again c =
-    (omega arith, c .before .before .before .before .loop .inv .1, find-more _ (c .before .before .before .before .loop .inv .2)
-    (asked _ _ _ (c .before .before .get-head .ensures) (omega (arith, c .before .before .before .before .before .before .before .pre .limit)) (isReady _ _)
-    (c .before .is-ready .ensures) (c .if1 .left)))
+loop-again c = (
+  omega arith,
+  c .before .before .before .before .loop .inv .1,
+  find-more _ (c .before .before .before .before .loop .inv .2)
+      (asked _ _ _ (c .before .before .get-head .ensures) (omega (arith, c .before .before .before .before .before .before .before .pre .limit)) (isReady _ _)
+      (c .before .is-ready .ensures) (c .if1 .left)),
+)
 
 returns-2 : tie.Need-returns-2 Inv-loop μ-loop
 returns-2 c = sym (find-end _ (c .before .loop .inv .2) (omega arith))

@@ -17,9 +17,13 @@ is-new-requires : tie.Need-is-new-requires
 is-new-requires c κs = search needs
 
 answers-are-real-requires : tie.Need-answers-are-real-requires
-answers-are-real-requires c κs = (search needs, search needs, few-answers (c .before .before .before .before .before .before .before .before .before .pre) _
-    (c .before .before .before .before .before .before .is-open .ensures) (c .before .before .before .before .before .if1 .left) _
-    (c .before .before .before .before .head-is-sound .ensures) (c .before .before .before .if2 .taken))
+answers-are-real-requires c κs = (
+  search needs,
+  search needs,
+  few-answers (c .before .before .before .before .before .before .before .before .before .pre) _
+      (c .before .before .before .before .before .before .is-open .ensures) (c .before .before .before .before .before .if1 .left) _
+      (c .before .before .before .before .head-is-sound .ensures) (c .before .before .before .if2 .taken),
+)
 
 returns-2 : tie.Need-returns-2
 returns-2 c =

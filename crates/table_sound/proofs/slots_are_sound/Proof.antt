@@ -30,8 +30,13 @@ slice-aggregate-slot-is-sound : tie.Need-slice-aggregate-slot-is-sound Inv-loop 
 slice-aggregate-slot-is-sound c = search needs
 
 slot-is-sound-requires : tie.Need-slot-is-sound-requires Inv-loop μ-loop
-slot-is-sound-requires c κs = (search needs, omega arith, c .before .before .before .before .before .pre .1, c .before .get-head .ensures,
-    c .before .before .before .loop .inv .2)
+slot-is-sound-requires c κs = (
+  search needs,
+  omega arith,
+  c .before .before .before .before .before .pre .1,
+  c .before .get-head .ensures,
+  c .before .before .before .loop .inv .2,
+)
 
 ticket-held-requires : tie.Need-ticket-held-requires Inv-loop μ-loop
 ticket-held-requires c κs = search needs
@@ -52,9 +57,14 @@ loop-less : tie.Need-loop-less Inv-loop μ-loop
 loop-less c = omega arith
 
 loop-again : tie.Need-loop-again Inv-loop μ-loop
-loop-again c = (omega arith, rw length-set (c .before .before .before .before .before .before .loop .inv .1), seen-more _ _ _ _ _ (omega arith)
-    (omega arith) (c .before .before .before .before .get-head .ensures) (c .ticket-held .ensures)
-    (c .before .before .before .before .before .before .loop .inv .2), all-more _ (c .before .before .before .before .before .before .loop .inv .3) (cc))
+loop-again c = (
+  omega arith,
+  rw length-set (c .before .before .before .before .before .before .loop .inv .1),
+  seen-more _ _ _ _ _ (omega arith)
+      (omega arith) (c .before .before .before .before .get-head .ensures) (c .ticket-held .ensures)
+      (c .before .before .before .before .before .before .loop .inv .2),
+  all-more _ (c .before .before .before .before .before .before .loop .inv .3) (cc),
+)
 
 returns : tie.Need-returns Inv-loop μ-loop
 returns c = sym (all-fails _ _ (c .before .before .before .before .loop-test .taken) (cc))
