@@ -11,7 +11,7 @@ use Rattle.decimal.specs.declared.DigitsRead.{DigitsRead}
 use Rattle.decimal.specs.declared.DigitsRead.the-variants.{Value, NotDigits}
 use Rattle.field.specs.Part.{part}
 use Rattle.word.specs.declared.Word.{Word}
-use Rattle.word.specs.declared.Word.the-variants.{Job, Response, Upload, Download, GetInfo, Abort, Report, Event, Start, Stop, Active, Time as TimeWord, Immediate, Never, TimeGe, Name}
+use Rattle.word.specs.declared.Word.the-variants.{Job, Response, Upload, Download, GetInfo, Abort, Report, Event, Start, Active, Immediate, Other, Name, TimeGe}
 use Rattle.token.specs.Token.{nextToken}
 use Rattle.number.specs.Number.{numberOf}
 use Rattle.number.specs.declared.Number.{Number as NumberRead}
@@ -38,13 +38,11 @@ wordClass Abort = ABORT
 wordClass Report = REPORT
 wordClass Event = EVENT
 wordClass Start = START
-wordClass Stop = reserved
 wordClass Active = ACTIVE
-wordClass TimeWord = reserved
 wordClass Immediate = IMMEDIATE
-wordClass Never = reserved
-wordClass TimeGe = TIME≥
+wordClass Other = reserved
 wordClass Name = name
+wordClass TimeGe = TIME≥
 
 -- the number that a field of digits is; 0 where it is none
 abbrev pub valueOf : DigitsRead → ℕ

@@ -111,13 +111,11 @@ fn word_class(word: Word) -> u8
         Word::Report => REPORT,
         Word::Event => EVENT,
         Word::Start => START,
-        Word::Stop => RESERVED,
         Word::Active => ACTIVE,
-        Word::Time => RESERVED,
         Word::Immediate => IMMEDIATE,
-        Word::Never => RESERVED,
-        Word::TimeGe => TIME_GE,
+        Word::Other => RESERVED,
         Word::Name => NAME,
+        Word::TimeGe => TIME_GE,
     }
 }
 

@@ -9,7 +9,7 @@ use Rattle.field.specs.Bytes.{hasAt, ascii}
 use Rattle.scan.specs.Kinds.{isWordByte}
 use Rattle.scan.specs.Run.{runEnd}
 use Rattle.word.specs.declared.Word.{Word}
-use Rattle.word.specs.declared.Word.the-variants.{Job, Response, Upload, Download, GetInfo, Abort, Report, Event, Start, Stop, Active, Time, Immediate, Never, TimeGe, Name}
+use Rattle.word.specs.declared.Word.the-variants.{Job, Response, Upload, Download, GetInfo, Abort, Report, Event, Start, Active, Immediate, Other, Name, TimeGe}
 use Rattle.word.specs.declared.WordRead.{WordRead}
 use Rattle.word.specs.declared.WordRead.the-variants.{Is, NoWord}
 
@@ -33,11 +33,11 @@ reserved =
     ∷ spells (ascii "REPORT") Report
     ∷ spells (ascii "EVENT") Event
     ∷ spells (ascii "START") Start
-    ∷ spells (ascii "STOP") Stop
+    ∷ spells (ascii "STOP") Other
     ∷ spells (ascii "ACTIVE") Active
-    ∷ spells (ascii "TIME") Time
+    ∷ spells (ascii "TIME") Other
     ∷ spells (ascii "IMMEDIATE") Immediate
-    ∷ spells (ascii "NEVER") Never
+    ∷ spells (ascii "NEVER") Other
     ∷ []
 
 -- "A name is a word that isn't reserved.": which word the n bytes of s from a on are
