@@ -1,8 +1,8 @@
 // Response records.
 use crate::refusal;
 use c_numbers::records::record_numbers;
-use record_read::RecordRead;
 use record::Written;
+use record_read::RecordRead;
 ghost use Rattle.record_read.specs.Reading.{paperRecordRead};
 ghost use Rattle.record.specs.Writing.{paperRecordWritten};
 ghost use Rattle.c_numbers.specs.Records.{recordNumbers};

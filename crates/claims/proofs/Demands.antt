@@ -85,7 +85,10 @@ demand-1 =
       reads-record = read-record-exactly commands (omega arith);
       writes-record = λ c out. record { answers = write-record-exactly commands c out; refusal-leaves = refused-record-changes-nothing commands c out };
       reads-job = λ file offsets.
-          record { answers = (judged file (length offsets), only file (length offsets)); refusal-leaves = λ number place e. ap (λ (x : Reading). filled x offsets) e };
+          record {
+            answers = (judged file (length offsets), only file (length offsets));
+            refusal-leaves = λ number place e. ap (λ (x : Reading). filled x offsets) e;
+          };
       reads-statement = read-statement-exactly;
       makes = λ b max. record { answers = make-exactly b max; refusal-leaves = make-refused-keeps b max };
       places = λ b p n. record { answers = place-exactly b p n; refusal-leaves = place-refused-keeps b p n };
@@ -183,7 +186,8 @@ demand-2 =
           let e = records.lengths c in
           rw e (records.write-then-read commands (omega arith) c out ok (rw (← e) room));
       read-then-write = records.read-then-write commands;
-      record-text-shown = λ c ok. let s = recordBytes c in record-text s (recordRead commands s) c (records.read-exactly commands (omega arith) s c .1 (ok, refl));
+      record-text-shown =
+          λ c ok. let s = recordBytes c in record-text s (recordRead commands s) c (records.read-exactly commands (omega arith) s c .1 (ok, refl));
       no-record-text = λ s number place e. rw e;
       record-length = records.lengths;
       name-write-then-read = names.write-then-read;

@@ -25,7 +25,8 @@ readFrom acc (d ∷ ds) = cond (isDigit d) (readFrom (acc * 10 + (d - 48)) ds) N
 -- Horner's step
 horner : (acc x k v : ℕ) → (acc * 10 + x) * 10 ^ k + v ≡ acc * 10 ^ suc k + (x * 10 ^ k + v)
 horner acc x k v =
-    ap (λ (m : ℕ). m + v) (add-mul (acc * 10) x (10 ^ k) ∙ ap (λ (m : ℕ). m + x * 10 ^ k) (mul-assoc acc 10 (10 ^ k) ∙ ap (λ (m : ℕ). acc * m) (sym (pow-succ' 10 k))))
+    ap (λ (m : ℕ). m + v) (add-mul (acc * 10) x (10 ^ k) ∙ ap (λ (m : ℕ). m + x * 10 ^ k)
+    (mul-assoc acc 10 (10 ^ k) ∙ ap (λ (m : ℕ). acc * m) (sym (pow-succ' 10 k))))
     ∙ add-assoc (acc * 10 ^ suc k) (x * 10 ^ k) v
 
 pick-all : (t b : Bool) (u v : DigitsRead) → u ≡ cond b v NotDigits → cond t u NotDigits ≡ cond (t && b) v NotDigits

@@ -20,7 +20,8 @@ use Rattle.item.proofs.Lines.{ahead, ahead-ended, line-tokens}
 end-place : (s : List ℕ) (i p : ℕ) → i ≤ length s → nextItem s i ≡ ended p → p ≡ length s
 unfolding nextItem nextToken
 end-place s i p l e =
-    let h : (p ≡ blankEnd false s i) × (length s ≤ blankEnd false s i) = ahead-ended s (blankEnd false s i) (tokenAt s (blankEnd false s i)) (token.ahead s (blankEnd false s i)) p e in
+    let h : (p ≡ blankEnd false s i) × (length s ≤ blankEnd false s i) =
+    ahead-ended s (blankEnd false s i) (tokenAt s (blankEnd false s i)) (token.ahead s (blankEnd false s i)) p e in
     omega (arith, onward s i)
 
 ends : {s : List ℕ} {i : ℕ} {ts : List Placed} {z : Last} → Tokens s i ts z → i ≤ length s → (p : ℕ) → z ≡ end p → p ≡ length s

@@ -75,7 +75,8 @@ ahead-ended s i k (a-semicolon l) p e = absurd (item≢ended e)
 pub ahead : (s : List ℕ) (i : ℕ) (t : Placed) → nextItem s i ≡ item t → (t .place ≡ blankEnd false s i) × Span s i (t .end)
 unfolding nextItem nextToken blankEnd
 ahead s i t e =
-    let h : (t .place ≡ i + blank false (drop i s)) × Span s (i + blank false (drop i s)) (t .end) = ahead-item s (i + blank false (drop i s)) (tokenAt s (i + blank false (drop i s))) (token.ahead s (i + blank false (drop i s))) t e in
+    let h : (t .place ≡ i + blank false (drop i s)) × Span s (i + blank false (drop i s)) (t .end) =
+    ahead-item s (i + blank false (drop i s)) (tokenAt s (i + blank false (drop i s))) (token.ahead s (i + blank false (drop i s))) t e in
     (h .0, omega arith)
 
 -- past the file's bytes no token stands
@@ -86,7 +87,8 @@ nothing-past s i t l e =
     ended≢item (rw n at e)
 
 -- the steps suffice
-on-item : (s : List ℕ) (i : ℕ) (k : ℕ → Line) → ((t : Placed) → nextItem s i ≡ item t → Tokens s (t .end) (k (t .end) .tokens) (k (t .end) .last)) → (x : Next) → nextItem s i ≡ x → Tokens s i (lineOn x k .tokens) (lineOn x k .last)
+on-item : (s : List ℕ) (i : ℕ) (k : ℕ → Line) → ((t : Placed) → nextItem s i ≡ item t → Tokens s (t .end) (k (t .end) .tokens) (k (t .end) .last))
+    → (x : Next) → nextItem s i ≡ x → Tokens s i (lineOn x k .tokens) (lineOn x k .last)
 on-item s i k later (ended p) e = at-end e
 on-item s i k later (noTokenNext why p) e = no-token e
 on-item s i k later (item t) e = then e (later t e)
@@ -108,5 +110,6 @@ line-tokens s = tokens-at s 0
 pub inside : (s : List ℕ) (i : ℕ) (t : Placed) → nextItem s i ≡ item t → t .place < length s
 unfolding nextItem nextToken
 inside s i t e =
-    let h : (t .place ≡ blankEnd false s i) × Span s (blankEnd false s i) (t .end) = ahead-item s (blankEnd false s i) (tokenAt s (blankEnd false s i)) (token.ahead s (blankEnd false s i)) t e in
+    let h : (t .place ≡ blankEnd false s i) × Span s (blankEnd false s i) (t .end) =
+    ahead-item s (blankEnd false s i) (tokenAt s (blankEnd false s i)) (token.ahead s (blankEnd false s i)) t e in
     omega arith

@@ -55,6 +55,7 @@ pub time-says : (s ys : List ℕ) (a h m k : ℕ) → h < 100 → m < 100 → k 
     → drop a s ≡ digits 2 h ++ (ascii ":" ++ (digits 2 m ++ (ascii ":" ++ (digits 2 k ++ ys)))) → timeNumber s a ≡ h * 10000 + m * 100 + k
 unfolding digits
 time-says s ys a h m k h-low m-low k-low e =
-    let on : (i : ℕ) → drop (a + i) s ≡ drop i (digits 2 h ++ (ascii ":" ++ (digits 2 m ++ (ascii ":" ++ (digits 2 k ++ ys))))) = λ i. sym (drop-drop i a s) ∙ ap (drop i) e in
+    let on : (i : ℕ) → drop (a + i) s ≡ drop i (digits 2 h ++ (ascii ":" ++ (digits 2 m ++ (ascii ":" ++ (digits 2 k ++ ys))))) =
+    λ i. sym (drop-drop i a s) ∙ ap (drop i) e in
     sym
     (timed s a h m k (sym (two-say s _ a h h-low e refl)) (sym (two-say s _ (a + 3) m m-low (on 3) refl)) (sym (two-say s _ (a + 6) k k-low (on 6) refl)))

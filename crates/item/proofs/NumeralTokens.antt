@@ -123,7 +123,16 @@ module _ (s : List ℕ) (b : ℕ) (stop : isNumericByte (getD s b 0) ≡ false) 
       unfolding isNumberAt
       pointed few =
           let more : d + length w < b = omega (arith, counted) in
-          rw (mid, ne-eqb (d + length w) b (λ e. omega arith), head-at s (d + length w) 46 ((x ∷ f) ++ drop b s) from-point, head-at s (d + length w + 1) x (f ++ drop b s) after-point, digit-each (x ∷ f) after x (List·Memᴰ·head refl), last, eq-eqb b b refl, le-leb b (d + 16 + 1) (omega (arith, counted)))
+          rw (
+            mid,
+            ne-eqb (d + length w) b (λ e. omega arith),
+            head-at s (d + length w) 46 ((x ∷ f) ++ drop b s) from-point,
+            head-at s (d + length w + 1) x (f ++ drop b s) after-point,
+            digit-each (x ∷ f) after x (List·Memᴰ·head refl),
+            last,
+            eq-eqb b b refl,
+            le-leb b (d + 16 + 1) (omega (arith, counted)),
+          )
 
     number-at : (f : List ℕ) → allDigits f ≡ true → drop d s ≡ unsigned w f ++ drop b s → length (unsigned w f) ≡ b - d → length w + length f ≤ 16
         → isNumberAt s d b ≡ true
@@ -144,7 +153,8 @@ colon-at s i b h =
     let colon = eqb (getD s (i + 2) 0) 58 in
     let minutes = pairAt s (i + 3) in
     let second = eqb (getD s (i + 5) 0) 58 in
-    let e = and-left (eight && hours && colon) minutes (and-left (eight && hours && colon && minutes) second (and-left (eight && hours && colon && minutes && second) (pairAt s (i + 6)) h)) in
+    let e = and-left (eight && hours && colon) minutes (and-left (eight && hours && colon && minutes) second
+    (and-left (eight && hours && colon && minutes && second) (pairAt s (i + 6)) h)) in
     (eqb-true (b - i) 8 (and-left eight hours (and-left (eight && hours) colon e)), eqb-true (getD s (i + 2) 0) 58 (and-right (eight && hours) colon e))
 
 -- no numeral is a time: it has no colon

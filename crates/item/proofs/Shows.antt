@@ -69,7 +69,8 @@ shows s i =
 pub onward : (base : ℕ) (s : List ℕ) (at : ℕ) → base ≤ at → at ≤ itemAt base s at .next
 unfolding itemAt
 onward base s at h =
-    let l : Lies s (at - base) (startOf (nextToken s (at - base))) (endOf (nextToken s (at - base))) = lies s (at - base) (nextToken s (at - base)) (nextToken s (at - base)) refl refl in
+    let l : Lies s (at - base) (startOf (nextToken s (at - base))) (endOf (nextToken s (at - base))) =
+    lies s (at - base) (nextToken s (at - base)) (nextToken s (at - base)) refl refl in
     omega (arith, next-of base s (nextToken s (at - base)), l .from, l .ordered)
 
 -- one byte fewer in front

@@ -43,7 +43,12 @@ at-the-end s i p e = record { tokens = []; place = p; read = at-end e; are = ref
 
 first-is : (s : List ℕ) (i : ℕ) (c : Class) (p b : ℕ) (x : Said) (cs : List Class) → nextItem s i ≡ at c p b x → Spelled s b cs → Spelled s i (c ∷ cs)
 first-is s i c p b x cs e r =
-    record { tokens = record { class = c; place = p; end = b; said = x } ∷ r .tokens; place = r .place; read = then e (r .read); are = ap (λ (k : List Class). c ∷ k) (r .are) }
+    record {
+      tokens = record { class = c; place = p; end = b; said = x } ∷ r .tokens;
+      place = r .place;
+      read = then e (r .read);
+      are = ap (λ (k : List Class). c ∷ k) (r .are);
+    }
 
 no-token≢end : {why : Why} {p q : ℕ} → noTokenAt why p ≡ end q → ⊥
 no-token≢end e = let z : _≡_ {A = ℕ} 0 1 = cc in omega arith
@@ -159,7 +164,16 @@ in-file-exactly a = (to, from)
     to b =
         let s : Spelled (text (classes (a ++ b .0))) 0 (classes (a ++ b .0)) = spelled (classes (a ++ b .0)) in
         let l : (rs : List ℕ) × Legal (s .tokens) rs = relabel (a ++ b .0) (s .tokens) (b .1) (sym (s .are)) (b .2) in
-        record { bytes = text (classes (a ++ b .0)); tokens = s .tokens; place = s .place; read = s .read; offsets = l .0; legal = l .1; more = b .0; goes-on = s .are }
+        record {
+          bytes = text (classes (a ++ b .0));
+          tokens = s .tokens;
+          place = s .place;
+          read = s .read;
+          offsets = l .0;
+          legal = l .1;
+          more = b .0;
+          goes-on = s .are;
+        }
 
     from : InFile a → Begins a
     from f =

@@ -35,7 +35,12 @@ Told t (ended p) = Unit {0}
 Told t (noTokenNext why p) = Unit {0}
 
 made-tells : (c : Class) (a b v : ℕ) (n : NumberRead) (o : Operator) → a ≤ b
-    → Tells (madeOf 0 (classNo c) a b v n o) (record { class = c; place = a; end = b; said = record { moment = v; number = paperNumber n; operator = paperOperator o } })
+    → Tells (madeOf 0 (classNo c) a b v n o) (record {
+      class = c;
+      place = a;
+      end = b;
+      said = record { moment = v; number = paperNumber n; operator = paperOperator o };
+    })
 made-tells c a b v n o l = record { class = refl; place = omega arith; spans = omega arith; next = omega arith; moment = refl; number = refl; operator = refl }
 
 by-token : (s : List ℕ) (k : Token) → startOf k ≤ endOf k → Told (numbered 0 s k) (itemOf s k)

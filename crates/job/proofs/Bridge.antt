@@ -63,7 +63,8 @@ opening-is os rs t = go os (isClass (t .class) JOB) refl
 
 -- what stands between statements, by the tests
 tested : (s : List ℕ) (k : ℕ) (t : Item) (a b f z : Bool) → eqb (t .class) endNo ≡ a → ltb endNo (t .class) ≡ b → eqb k statements ≡ f → eqb k 0 ≡ z
-    → stepOf s k t ≡ cond a (cond z (stop (refusalNo (t .class)) t) Over) (cond b (stop (refusalNo (t .class)) t) (cond f (stop tooManyStatements t) (stepInto s k t)))
+    → stepOf s k t ≡ cond a (cond z (stop (refusalNo (t .class)) t) Over)
+    (cond b (stop (refusalNo (t .class)) t) (cond f (stop tooManyStatements t) (stepInto s k t)))
 unfolding stepOf
 tested s k t a b f z p q r o = rw (p, q, r, o)
 
@@ -120,7 +121,8 @@ module _ (s : List ℕ) where
 
   -- after a statement that begins with t
   module _ (left : ℕ) (os : List ℕ) (t : Placed) (ts : List Placed) (z : Last) (n : length os + suc left ≡ statements)
-      (later : (b : ℕ) (rest : List Placed) → Tokens s b rest z → jobLoop s (suc left) (os ++ (t .place ∷ [])) b ≡ close (moves (on done (os ++ (t .place ∷ []))) rest) z) where
+      (later : (b : ℕ) (rest : List Placed) → Tokens s b rest z → jobLoop s (suc left) (os ++ (t .place ∷ [])) b
+      ≡ close (moves (on done (os ++ (t .place ∷ []))) rest) z) where
     abbrev goes : Step → OffsetsRead
     goes x = onStep x os (t .place) (jobLoop s (suc left))
 

@@ -12,7 +12,14 @@ pub one-more : (table₀ places table : List ℕ) (k : ℕ) → table ≡ take k
     → set table k (getD places k 0) ≡ take (k + 1) places ++ drop (k + 1) table₀
 one-more table₀ places table k inv l m =
     let few : k ≤ length places = omega arith in
-    rw (inv, drop-cons table₀ k 0 m, set-at (take k places) (getD table₀ k 0) (drop (suc k) table₀) (getD places k 0) k (length-take-le k places few), add-one k, take-suc places k 0 l, append-assoc)
+    rw (
+      inv,
+      drop-cons table₀ k 0 m,
+      set-at (take k places) (getD table₀ k 0) (drop (suc k) table₀) (getD places k 0) k (length-take-le k places few),
+      add-one k,
+      take-suc places k 0 l,
+      append-assoc,
+    )
 
 -- the part from at on is the list without its first at elements
 pub tail-all : (s : List ℕ) (at : ℕ) → take (length s - at) (drop at s) ≡ drop at s

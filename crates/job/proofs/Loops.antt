@@ -58,7 +58,8 @@ on-token s k at t n e x i (the-end c p) = absurd (ended-stops s k t n c e)
 on-token s k at t n e x i (no-token {why = why} c p) = absurd (no-token-stops s k t n (omega (arith, no-token-numbers why .0)) e)
 on-token s k at t n e x i (a-token {u = u} c p q) = subst (λ (m : ℕ). m < length s) (sym p) (inside s at u i)
 
-module _ (s places : List ℕ) (k at : ℕ) (e : OffsetsRead) (inv : jobLoop s (statements + 1 - k) (take k places) at ≡ e) (few : k ≤ statements) (long : length places ≡ statements) (t : Item) (tok : t ≡ itemAt 0 s at) (r : Step) (is : r ≡ stepOf s k t) where
+module _ (s places : List ℕ) (k at : ℕ) (e : OffsetsRead) (inv : jobLoop s (statements + 1 - k) (take k places) at ≡ e) (few : k ≤ statements)
+    (long : length places ≡ statements) (t : Item) (tok : t ≡ itemAt 0 s at) (r : Step) (is : r ≡ stepOf s k t) where
   turn : onStep r (take k places) (t .place) (jobLoop s (statements + 1 - (k + 1))) ≡ e
   unfolding jobLoop
   turn =

@@ -87,7 +87,8 @@ module _ (s : List ℕ) (room : ℕ) where
       from : Verdict s room (refused noToken p) → (length s ≤ fileBytes) × Three (line s .tokens) (line s .last) p
       from (broken l (three r)) = (l, r)
 
-  pub four-exactly : (p : ℕ) → readJob s room ≡ refused unexpected p ↔ (length s ≤ fileBytes) × (FourToken (line s .tokens) p ⊎ FourEnd (line s .tokens) (line s .last) p)
+  pub four-exactly : (p : ℕ) → readJob s room ≡ refused unexpected p ↔ (length s ≤ fileBytes)
+      × (FourToken (line s .tokens) p ⊎ FourEnd (line s .tokens) (line s .last) p)
   four-exactly p = (λ e. from (given e), λ h. only (refused unexpected p) (broken (h .0) (to (h .1))))
     where
       from : Verdict s room (refused unexpected p) → (length s ≤ fileBytes) × (FourToken (line s .tokens) p ⊎ FourEnd (line s .tokens) (line s .last) p)

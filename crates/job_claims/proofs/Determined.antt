@@ -34,7 +34,8 @@ pub job-determined : (v : OffsetsRead) (table exit exit′ : List ℕ) (a b : Jo
 job-determined v table exit exit′ a b p q = (one-job-answer a b (p .0 ∙ sym (q .0)), p .1 ∙ sym (q .1))
 
 -- and a refused file leaves the table as it was
-pub refused-table-stays : (s table exit : List ℕ) (n p : ℕ) → readJob s (length table) ≡ refused n p → exit ≡ filled (readJob s (length table)) table → exit ≡ table
+pub refused-table-stays : (s table exit : List ℕ) (n p : ℕ) → readJob s (length table) ≡ refused n p → exit ≡ filled (readJob s (length table)) table
+    → exit ≡ table
 refused-table-stays s table exit n p e x = x ∙ ap (λ (v : OffsetsRead). filled v table) e
 
 pub statement-determined : (v : Result StatementAt) (a b : StatementAnswer) → paperStatementAt a ≡ v → paperStatementAt b ≡ v → a ≡ b

@@ -45,7 +45,8 @@ stands-at s i k (a-semicolon l) = refl
 next-in : (s : List ℕ) (i : ℕ) (x : Next) → i ≤ length s → nextItem s i ≡ x → placeOf x ≤ length s
 unfolding nextItem nextToken
 next-in s i x l e =
-    let h : placeOf x ≡ blankEnd false s i = ap placeOf (sym e) ∙ stands-at s (blankEnd false s i) (tokenAt s (blankEnd false s i)) (token.ahead s (blankEnd false s i)) in
+    let h : placeOf x ≡ blankEnd false s i =
+    ap placeOf (sym e) ∙ stands-at s (blankEnd false s i) (tokenAt s (blankEnd false s i)) (token.ahead s (blankEnd false s i)) in
     omega (arith, onward s i)
 
 last-within : {s : List ℕ} {i : ℕ} {ts : List Placed} {z : Last} → Tokens s i ts z → i ≤ length s → lastPlace z ≤ length s
@@ -60,13 +61,16 @@ module _ {s : List ℕ} {i : ℕ} {ts : List Placed} {z : Last} (d : Tokens s i 
   pub end-within : z ≡ end p → p ≤ length s
   end-within e = let h = last-within d l in rw e at h
 
-among : {s : List ℕ} {i : ℕ} {ts : List Placed} {z : Last} → Tokens s i ts z → (a : List Placed) (t : Placed) (after : List Placed) → ts ≡ a ++ (t ∷ after) → t .place ≤ length s
+among : {s : List ℕ} {i : ℕ} {ts : List Placed} {z : Last} → Tokens s i ts z → (a : List Placed) (t : Placed) (after : List Placed) → ts ≡ a ++ (t ∷ after)
+    → t .place ≤ length s
 among (at-end e) [] t after q = let y : _≡_ {A = ℕ} 0 1 = cc in absurd (omega arith)
 among (at-end e) (x ∷ a) t after q = let y : _≡_ {A = ℕ} 0 1 = cc in absurd (omega arith)
 among (no-token e) [] t after q = let y : _≡_ {A = ℕ} 0 1 = cc in absurd (omega arith)
 among (no-token e) (x ∷ a) t after q = let y : _≡_ {A = ℕ} 0 1 = cc in absurd (omega arith)
-among {s} {i} (then {t = u} e r) [] t after q = let y : u ≡ t = cc in let h : u .place < length s = inside s i u e in omega (arith, ap (λ (x : Placed). x .place) y)
+among {s} {i} (then {t = u} e r) [] t after q =
+    let y : u ≡ t = cc in let h : u .place < length s = inside s i u e in omega (arith, ap (λ (x : Placed). x .place) y)
 among (then e r) (x ∷ a) t after q = among r a t after (cc)
 
-pub token-within : {s : List ℕ} {i : ℕ} {ts : List Placed} {z : Last} → Tokens s i ts z → {p : ℕ} {a : List Placed} {t : Placed} → Stands ts p a t → p ≤ length s
+pub token-within : {s : List ℕ} {i : ℕ} {ts : List Placed} {z : Last} → Tokens s i ts z → {p : ℕ} {a : List Placed} {t : Placed} → Stands ts p a t
+    → p ≤ length s
 token-within d {p} {a} {t} w = omega (arith, among d a t (w .after) (w .parts), w .place)

@@ -91,4 +91,24 @@ byte-of s r a b p q = p ∙ ap (λ (n : ℕ). getD s n 0) q
 pub next-of : (a b : ℕ) → a ≡ b → a + 1 ≡ b + 1
 next-of a b p = ap (λ (n : ℕ). n + 1) p
 
-pub ruleset choose = (needs, yes-call, no-call, yes-eq, no-eq, yes-lt, no-lt, yes-le, no-le, yes-eq-of, no-eq-of, yes-le-of, no-le-of, byte-of, next-of, both, either, same-eq, same-le)
+pub ruleset choose = (
+  needs,
+  yes-call,
+  no-call,
+  yes-eq,
+  no-eq,
+  yes-lt,
+  no-lt,
+  yes-le,
+  no-le,
+  yes-eq-of,
+  no-eq-of,
+  yes-le-of,
+  no-le-of,
+  byte-of,
+  next-of,
+  both,
+  either,
+  same-eq,
+  same-le,
+)

@@ -23,7 +23,8 @@ readOn m xs = m * 10 ^ length (digitsOf xs) + value (digitsOf xs)
 
 horner : (m x k v : ℕ) → m * 10 ^ suc k + (x * 10 ^ k + v) ≡ (m * 10 + x) * 10 ^ k + v
 horner m x k v =
-    sym (ap (λ (n : ℕ). n + v) (add-mul (m * 10) x (10 ^ k) ∙ ap (λ (n : ℕ). n + x * 10 ^ k) (mul-assoc m 10 (10 ^ k) ∙ ap (λ (n : ℕ). m * n) (sym (pow-succ' 10 k))))
+    sym (ap (λ (n : ℕ). n + v) (add-mul (m * 10) x (10 ^ k) ∙ ap (λ (n : ℕ). n + x * 10 ^ k)
+    (mul-assoc m 10 (10 ^ k) ∙ ap (λ (n : ℕ). m * n) (sym (pow-succ' 10 k))))
     ∙ add-assoc (m * 10 ^ suc k) (x * 10 ^ k) v)
 
 a-digit : (m x : ℕ) (xs : List ℕ) → isDigit x ≡ true → readOn m (x ∷ xs) ≡ readOn (m * 10 + (x - 48)) xs
@@ -42,7 +43,8 @@ module _ (s : List ℕ) (at w i : ℕ) (room : at + w ≤ length s) where
       rw (e, part-cons s (at + i) (w - (i + 1)) (omega arith), f)
 
   module _ (m : ℕ) {e : ℕ} (inv : readOn m (part s (at + i) (w - i)) ≡ e) where
-    pub digit-on : (x : ℕ) → i < w → isDigit (getD s (at + i) 0) ≡ true → x ≡ getD s (at + i) 0 - 48 → readOn (m * 10 + x) (part s (at + (i + 1)) (w - (i + 1))) ≡ e
+    pub digit-on : (x : ℕ) → i < w → isDigit (getD s (at + i) 0) ≡ true → x ≡ getD s (at + i) 0 - 48
+        → readOn (m * 10 + x) (part s (at + (i + 1)) (w - (i + 1))) ≡ e
     digit-on x l d q = rw q (sym (a-digit m _ _ d) ∙ ap (readOn m) (sym (turn l)) ∙ inv)
 
     pub other-on : i < w → isDigit (getD s (at + i) 0) ≡ false → readOn m (part s (at + (i + 1)) (w - (i + 1))) ≡ e

@@ -87,7 +87,13 @@ same-zero w f z = rw z
 -- "`-0` reads as 0.", with or without a point
 pub minus-zero : {bs w f : List ℕ} → Numeral bs false w f → value (w ++ f) ≡ 0 → numberOf (45 ∷ bs) ≡ numberOf bs
 minus-zero {bs} {w} {f} n z =
-    let m : Numeral (45 ∷ bs) true w f = record { bytes = ap (λ (l : List ℕ). 45 ∷ l) (n .bytes); whole = n .whole; after = n .after; some = n .some; few = n .few } in
+    let m : Numeral (45 ∷ bs) true w f = record {
+      bytes = ap (λ (l : List ℕ). 45 ∷ l) (n .bytes);
+      whole = n .whole;
+      after = n .after;
+      some = n .some;
+      few = n .few;
+    } in
     numeral-reads m ∙ same-zero w f z ∙ sym (numeral-reads n)
 
 -- ---- its size

@@ -63,7 +63,8 @@ whole-text text ok =
 
 text-ok : (text : List ℕ) → length text ≤ textBytes → run isTextByte text ≡ length text → isText text ≡ true
 unfolding isText
-text-ok text small whole = and-both (le-leb (length text) textBytes small) (eq-eqb (runEnd isTextByte text 0) (length text) (run-from-start isTextByte text ∙ whole))
+text-ok text small whole =
+    and-both (le-leb (length text) textBytes small) (eq-eqb (runEnd isTextByte text 0) (length text) (run-from-start isTextByte text ∙ whole))
 
 module _ (s : List ℕ) (start : ℕ) where
   -- a quote ends it

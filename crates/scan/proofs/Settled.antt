@@ -24,7 +24,8 @@ module _ (x : ℕ) (xs : List ℕ) where
   neither e f = rw (blank, e, f)
 
 -- what holds of the number of blanks, by the three cases of a first byte outside comments
-by-cases : (P : ℕ → Type 0) (x : ℕ) (xs : List ℕ) → P (suc (blank false xs)) → P (suc (blank true xs)) → (blank false (x ∷ xs) ≡ 0 → P 0) → P (blank false (x ∷ xs))
+by-cases : (P : ℕ → Type 0) (x : ℕ) (xs : List ℕ) → P (suc (blank false xs)) → P (suc (blank true xs)) → (blank false (x ∷ xs) ≡ 0 → P 0)
+    → P (blank false (x ∷ xs))
 by-cases P x xs h k z = go (isSeparator x) refl (commentAt (x ∷ xs) 0) refl
   where
     go : (a : Bool) → isSeparator x ≡ a → (b : Bool) → commentAt (x ∷ xs) 0 ≡ b → P (blank false (x ∷ xs))
@@ -48,7 +49,8 @@ unfolding blank
 blank-fits true [] = omega arith
 blank-fits false [] = omega arith
 blank-fits true (x ∷ xs) = omega (arith, blank-fits (not (isLineEnd x)) xs)
-blank-fits false (x ∷ xs) = by-cases (λ (n : ℕ). n ≤ length (x ∷ xs)) x xs (omega (arith, blank-fits false xs)) (omega (arith, blank-fits true xs)) (λ e. omega arith)
+blank-fits false (x ∷ xs) =
+    by-cases (λ (n : ℕ). n ≤ length (x ∷ xs)) x xs (omega (arith, blank-fits false xs)) (omega (arith, blank-fits true xs)) (λ e. omega arith)
 
 -- the next token's place is not before the place looked from, and within the file if that is
 pub record Onward (s : List ℕ) (i e : ℕ) : Type 0 where

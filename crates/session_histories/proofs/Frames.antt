@@ -73,7 +73,8 @@ module _ (b : List ℕ) (e : soundBytes b ≡ true) (d : List ℕ) (s : ℕ) (sa
   slot-same =
       ⊎-elim
       (λ z. slot-beyond d s (omega arith) ∙ sym (slot-beyond b s (omega arith)))
-      (λ z. ⊎-elim (λ y. slot-open d s (ap (λ h. h .taken) head-same ∙ y) ∙ sym (slot-open b s y)) (λ y. held (omega arith) (λ q. omega arith)) (eq-zero-or-pos (headOf b s .taken)))
+      (λ z. ⊎-elim (λ y. slot-open d s (ap (λ h. h .taken) head-same ∙ y) ∙ sym (slot-open b s y)) (λ y. held (omega arith) (λ q. omega arith))
+      (eq-zero-or-pos (headOf b s .taken)))
       (eq-zero-or-pos (sessions - s))
     where
       held : s < sessions → (headOf b s .taken ≡ 0 → ⊥) → slotOf d s ≡ slotOf b s

@@ -90,7 +90,8 @@ module _ (b : List ℕ) (e : soundBytes b ≡ true) where
   take-leaves s l =
       let b1 = putNumber b markAt s in
       let d = putNumber b1 handAt (s + 1) in
-      let other : (j : ℕ) → (j ≡ markAt → ⊥) → (j ≡ handAt → ⊥) → number d j ≡ number b j = λ j n m. number-other b1 handAt (s + 1) j m ∙ number-other b markAt s j n in
+      let other : (j : ℕ) → (j ≡ markAt → ⊥) → (j ≡ handAt → ⊥) → number d j ≡ number b j =
+      λ j n m. number-other b1 handAt (s + 1) j m ∙ number-other b markAt s j n in
       let hand : number d handAt ≡ s + 1 = number-same b1 handAt (s + 1) (rw length-putNumber (omega (arith, size))) (omega arith) in
       state-same
       (other maxAt (λ z. omega arith) (λ z. omega arith))

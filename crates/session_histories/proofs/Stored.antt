@@ -122,7 +122,8 @@ module _ (b : List ℕ) (e : soundBytes b ≡ true) (s : ℕ) (w : Waits b e s) 
   stored-head : headOf d s ≡ withEntry (takenOut b s) a .head
   unfolding takenOut headOf
   stored-head =
-      let keep : (j : ℕ) → j < headAt s + 5 → headAt s ≤ j → (j ≡ answeredAt s → ⊥) → number d j ≡ number b j = λ j l k m. other j (inl (omega arith)) m (λ z. omega arith) in
+      let keep : (j : ℕ) → j < headAt s + 5 → headAt s ≤ j → (j ≡ answeredAt s → ⊥) → number d j ≡ number b j =
+      λ j l k m. other j (inl (omega arith)) m (λ z. omega arith) in
       λ k. record {
         taken = keep (headAt s) (omega arith) (omega arith) (λ z. omega arith) k;
         program = keep (headAt s + 1) (omega arith) (omega arith) (λ z. omega arith) k;

@@ -30,8 +30,11 @@ length-name n kind = omega (arith, length-append (digits 4 n) (ending kind), len
 module _ (max n : ℕ) where
   pub below-max : (isMax max && ltb n max) ≡ true → n < 32
   below-max h =
-      omega
-      (arith, ltb-true n max (and-right (isMax max) (ltb n max) h), leb-true max sessions (and-right (leb 1 max) (leb max sessions) (and-left (isMax max) (ltb n max) h)))
+      omega (
+        arith,
+        ltb-true n max (and-right (isMax max) (ltb n max) h),
+        leb-true max sessions (and-right (leb 1 max) (leb max sessions) (and-left (isMax max) (ltb n max) h)),
+      )
 
   -- where nothing is refused there is room, and the number has four digits
   pub not-refused : (room : ℕ) → writeRefusal max n room ≡ 0 → (12 ≤ room) × (n < 10000)

@@ -137,7 +137,8 @@ module _ (b : List ℕ) (p t : ℕ) (sound : soundBytes b ≡ true) (range : wit
     pub ready-real : all (h .count) (λ i. inRangeAndReal (entryOf b s (i + 1))) ≡ true
     ready-real =
         rw all-answered
-        (sym (all-real (headOf b s .answered) (λ i. entryOf b s (i + 1))) ∙ sym (ap (λ x. allReal (x .answers)) (ready-stands .held)) ∙ ready-stands .session .answers-real)
+        (sym (all-real (headOf b s .answered) (λ i. entryOf b s (i + 1))) ∙ sym (ap (λ x. allReal (x .answers)) (ready-stands .held))
+        ∙ ready-stands .session .answers-real)
 
 -- what was written, and the number open again, are what collecting leaves
 pub collects-is : (b : List ℕ) (p t : ℕ) (out : List ℕ) (w : Collectable b p t (length out)) (s : ℕ) → s ≡ readyIn b p t → (bs f e : List ℕ) {n : ℕ}

@@ -111,7 +111,8 @@ module _ (b : List ℕ) where
       pub next-found : nextIn b ≡ at i
       unfolding takingUp takeUp takeHand takeNext
       next-found =
-          go (nextIn b) refl (subst (λ (f : Found). only (takeHand (abs b) f .0) ≡ done tt) (hand-empty (number b handAt) e) (passed (soundBytes b) _ unsound 0 ok .1))
+          go (nextIn b) refl (subst (λ (f : Found). only (takeHand (abs b) f .0) ≡ done tt) (hand-empty (number b handAt) e)
+          (passed (soundBytes b) _ unsound 0 ok .1))
         where
           go : (f : Found) → nextIn b ≡ f → only (takeNext (abs b) f .0) ≡ done tt → nextIn b ≡ at i
           go none q d = absurd (refused≢done d)

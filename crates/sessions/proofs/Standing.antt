@@ -89,5 +89,6 @@ module _ (last : ℕ) (slot : ℕ → Session) (t : ℕ) (ps : List (ℕ × ℕ 
         → Standing last (replaced slot s noSession) t ps qs (slot s .program ∷ rs)
     its-collection all w =
         let h = held-at w in
-        gone s (slot s) (omega arith) (replaced-all slot s noSession (λ i y. y .ticket ≡ t → ⊥) (λ e. omega arith) (λ i n e. n (sym (distinct i (here ∙ sym e)))))
+        gone s (slot s) (omega arith) (replaced-all slot s noSession (λ i y. y .ticket ≡ t → ⊥) (λ e. omega arith)
+        (λ i n e. n (sym (distinct i (here ∙ sym e)))))
         (record { ticket-low = omega arith; one-placing = h .one-placing; its-answers = h .its-answers; all-answered = all; one-reply = rw (h .no-reply) })

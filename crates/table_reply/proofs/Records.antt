@@ -58,7 +58,8 @@ module _ (b : List ℕ) (s : ℕ) where
       (eq-or-lt-of-le {n = i} {m = suc n} l)
 
   -- the length of one record more, and that it is small
-  pub length-more : (i total r : ℕ) (o : Outcome) → total ≡ length (replyOf b s i) → o ≡ entryOf b s (i + 1) .outcome → r ≡ fixedLength o + plainWidth (i + 1) + 0
+  pub length-more : (i total r : ℕ) (o : Outcome) → total ≡ length (replyOf b s i) → o ≡ entryOf b s (i + 1) .outcome
+      → r ≡ fixedLength o + plainWidth (i + 1) + 0
       → total + r ≡ length (replyOf b s (i + 1))
   length-more i total r o e q d =
       let a = entryOf b s (i + 1) in
@@ -88,7 +89,8 @@ module _ (b : List ℕ) (s : ℕ) where
   pub wrote-none : (d : List ℕ) → Wrote d 0 (replyOf b s 0) d 0
   wrote-none d = record { next = rw reply-none; bytes = rw reply-none (sym (put-nil d 0)) }
 
-  pub wrote-more : (i at next : ℕ) (a : Answer) {d e f : List ℕ} → a ≡ entryOf b s (i + 1) → Wrote d 0 (replyOf b s i) e at → Wrote e at (recordOf (i + 1) a) f next
+  pub wrote-more : (i at next : ℕ) (a : Answer) {d e f : List ℕ} → a ≡ entryOf b s (i + 1) → Wrote d 0 (replyOf b s i) e at
+      → Wrote e at (recordOf (i + 1) a) f next
       → Wrote d 0 (replyOf b s (i + 1)) f next
   wrote-more i at next a p v w = as-bytes (then v w) (ap (λ x. replyOf b s i ++ recordOf (i + 1) x) p ∙ sym (reply-more i))
 

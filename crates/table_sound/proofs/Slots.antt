@@ -27,7 +27,8 @@ use Rattle.table_sound.specs.Bytes.{handOf, abs, soundBytes, Seen}
 pub head-is : (max last s : ℕ) (h : Head) → (h .taken ≡ 0 → ⊥)
     → Tells h (headSound max last s)
     (ltb s max
-    && (leb 1 (h .program) && leb (h .program) programs && (leb 1 (h .count) && leb (h .count) commands) && (leb 1 (h .ticket .0) && leb (h .ticket .0) ticketMost))
+    && (leb 1 (h .program) && leb (h .program) programs && (leb 1 (h .count) && leb (h .count) commands) && (leb 1 (h .ticket .0) && leb (h .ticket .0)
+    ticketMost))
     && leb (h .ticket .0) last
     && leb (h .answered) (h .count))
 unfolding headSound inRange

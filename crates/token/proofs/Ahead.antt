@@ -102,22 +102,30 @@ module _ (s : List ℕ) (i : ℕ) where
   shaped d n f k m l =
       let r : Span s i (runEnd isNumericByte s d) = omega (arith, run-inside isNumericByte s d m) in
       either (isTimeAt s i (runEnd isNumericByte s d)) (a-time r)
-      (choice (Ahead s i) (isNumberAt s d (runEnd isNumericByte s d)) (λ h. a-number r (record { first = d; sign = n; digit = f; number = h; longest = refl })) (λ h. no-token k))
+      (choice (Ahead s i) (isNumberAt s d (runEnd isNumericByte s d))
+      (λ h. a-number r (record { first = d; sign = n; digit = f; number = h; longest = refl })) (λ h. no-token k))
 
   numeric : i < length s → (isDigit (getD s i 0) || eqb (getD s i 0) 45) ≡ true → Ahead s i (numericAt s i)
   unfolding numericAt
   numeric l e =
       choice (Ahead s i) (eqb (getD s i 0) 45)
-      (λ m. choice (Ahead s i) (isDigit (getD s (i + 1) 0)) (λ d. shaped (i + 1) (inr (refl, eqb-true _ 45 m)) d l (omega arith) (omega (arith, from isNumericByte (i + 1)))) (λ d. no-token l))
+      (λ m. choice (Ahead s i) (isDigit (getD s (i + 1) 0)) (λ d. shaped (i + 1) (inr (refl, eqb-true _ 45 m)) d l (omega arith)
+      (omega (arith, from isNumericByte (i + 1)))) (λ d. no-token l))
       (λ m.
       let d = digit (isDigit (getD s i 0)) (eqb (getD s i 0) 45) e m in
-      shaped i (inl refl) d l (omega arith) (run-some isNumericByte s i l (rw d (numeric-byte (isLetter (getD s i 0)) (eqb (getD s i 0) 95) (eqb (getD s i 0) 46) (eqb (getD s i 0) 58)))))
+      shaped i (inl refl) d l (omega arith) (run-some isNumericByte s i l
+      (rw d (numeric-byte (isLetter (getD s i 0)) (eqb (getD s i 0) 95) (eqb (getD s i 0) 46) (eqb (getD s i 0) 58)))))
 
   text : i < length s → Ahead s i (stringAt s i)
   unfolding stringAt isTextAt
   text l =
       choice (Ahead s i) (isTextAt s i)
-      (λ e. a-text (omega (arith, from isTextByte (i + 1), in-range (λ b. eqb b 34) (contentEnd s i) refl (and-right (eqb (getD s i 0) 34 && contentFits s i) (eqb (getD s (contentEnd s i) 0) 34) e))))
+      (λ e. a-text (omega (
+        arith,
+        from isTextByte (i + 1),
+        in-range (λ b. eqb b 34) (contentEnd s i) refl
+            (and-right (eqb (getD s i 0) 34 && contentFits s i) (eqb (getD s (contentEnd s i) 0) 34) e),
+      )))
       (λ e. either (contentFits s i && leb (length s) (contentEnd s i)) (no-token l) (no-token l))
 
   one : i < length s → Span s i (i + 1)
@@ -138,7 +146,8 @@ module _ (s : List ℕ) (i : ℕ) where
   ahead =
       choice (Ahead s i) (ltb i (length s))
       (λ l. choice (Ahead s i) (isLetter (getD s i 0)) (λ e. word (ltb-true _ _ l) (wordRead s i) (ends-within s i (ltb-true _ _ l) e))
-      (λ n. choice (Ahead s i) (isDigit (getD s i 0) || eqb (getD s i 0) 45) (λ e. numeric (ltb-true _ _ l) e) (λ m. either (eqb (getD s i 0) 34) (text (ltb-true _ _ l)) (sign (ltb-true _ _ l)))))
+      (λ n. choice (Ahead s i) (isDigit (getD s i 0) || eqb (getD s i 0) 45) (λ e. numeric (ltb-true _ _ l) e)
+      (λ m. either (eqb (getD s i 0) 34) (text (ltb-true _ _ l)) (sign (ltb-true _ _ l)))))
       (λ l. the-end (ltb-false _ _ l))
 
 -- a token's first byte and the place after it; of the end and of no token, its place

@@ -87,7 +87,8 @@ module _ (s : List ℕ) (i : ℕ) where
   module _ (t : isTextAt s i ≡ true) where
     begins : getD s i 0 ≡ 34
     unfolding isTextAt
-    begins = eqb-true _ 34 (and-left (eqb (getD s i 0) 34) (contentFits s i) (and-left (eqb (getD s i 0) 34 && contentFits s i) (eqb (getD s (contentEnd s i) 0) 34) t))
+    begins = eqb-true _ 34 (and-left (eqb (getD s i 0) 34) (contentFits s i)
+        (and-left (eqb (getD s i 0) 34 && contentFits s i) (eqb (getD s (contentEnd s i) 0) 34) t))
 
     fits : run isTextByte (drop (i + 1) s) ≤ 255
     unfolding isTextAt

@@ -80,7 +80,11 @@ wide-requires c κs = search needs
 add-acc : tie.Need-add-acc Inv-loop μ-loop
 add-acc c =
     let l = c .before .before .before .before .before .loop in
-    omega (arith, room (l .acc) (l .i) (c .before .before .before .before .before .before .before .before .before .args .width) (l .inv .1) (omega arith) (omega arith))
+    omega (
+      arith,
+      room (l .acc) (l .i) (c .before .before .before .before .before .before .before .before .before .args .width) (l .inv .1) (omega arith)
+          (omega arith),
+    )
 
 add-i : tie.Need-add-i Inv-loop μ-loop
 add-i c = omega arith
@@ -107,4 +111,5 @@ returns-5 c =
 pub digits-at-spec : {M : Type 1} → statement M
 digits-at-spec =
     tie.close
-    (tie.spec Inv-loop μ-loop returns sub-if2 returns-2 loop-holds add-b shared-slice-read-b returns-3 returns-4 mul-acc wide-requires add-acc add-i loop-less loop-again returns-5)
+    (tie.spec Inv-loop μ-loop returns sub-if2 returns-2 loop-holds add-b shared-slice-read-b returns-3 returns-4 mul-acc wide-requires add-acc add-i
+    loop-less loop-again returns-5)

@@ -31,7 +31,8 @@ add-width : tie.Need-add-width Inv-loop μ-loop
 add-width c = omega (arith, plain-le (c .before .before .args .n) 16 (omega arith) (c .before .before .pre))
 
 loop-less : tie.Need-loop-less Inv-loop μ-loop
-loop-less c = omega (arith, too-narrow (c .before .before .args .n) (c .before .loop .width) (c .before .loop .power) (c .loop-test .taken) (c .before .loop .inv .2))
+loop-less c =
+    omega (arith, too-narrow (c .before .before .args .n) (c .before .loop .width) (c .before .loop .power) (c .loop-test .taken) (c .before .loop .inv .2))
 
 loop-again : tie.Need-loop-again Inv-loop μ-loop
 loop-again c =

@@ -44,7 +44,8 @@ add-result-3 : tie.Need-add-result-3
 add-result-3 c = search needs
 
 returns : tie.Need-returns
-returns c = four _ _ (c .before .before .before .wide-at .ensures .0) (c .before .before .wide-at2 .ensures .0) (c .before .wide-at3 .ensures .0) (c .wide-at4 .ensures .0)
+returns c = four _ _ (c .before .before .before .wide-at .ensures .0) (c .before .before .wide-at2 .ensures .0) (c .before .wide-at3 .ensures .0)
+    (c .wide-at4 .ensures .0)
 
 pub get32-spec : {M : Type 1} → statement M
 get32-spec =

@@ -60,4 +60,5 @@ returns-4 c =
 pub has-at-spec : {M : Type 1} → statement M
 has-at-spec =
     tie.close
-    (tie.spec Inv-loop μ-loop returns sub-if2 returns-2 loop-holds add-if3 shared-slice-read-if3 shared-slice-read-if3-2 returns-3 add-j loop-less loop-again returns-4)
+    (tie.spec Inv-loop μ-loop returns sub-if2 returns-2 loop-holds add-if3 shared-slice-read-if3 shared-slice-read-if3-2 returns-3 add-j loop-less
+    loop-again returns-4)

@@ -29,7 +29,9 @@ item-with-requires : tie.Need-item-with-requires
 item-with-requires c κs = search needs
 
 returns : tie.Need-returns
-returns c = let d = not-bare _ _ _ (c .before .before .before .before .if1 .taken) (sym (c .before .before .before .digits-at .ensures) ∙ c .before .enum-told .given .1) in rw (d .class, d .value, ← c .before .before .before .before .before .number-at .ensures) (c .item-with .ensures)
+returns c = let d = not-bare _ _ _ (c .before .before .before .before .if1 .taken)
+    (sym (c .before .before .before .digits-at .ensures) ∙ c .before .enum-told .given .1) in
+    rw (d .class, d .value, ← c .before .before .before .before .before .number-at .ensures) (c .item-with .ensures)
 
 cast-day : tie.Need-cast-day
 cast-day c = omega (arith, field-fits 8 _ _ _ (c .before .before .before .digits-at .ensures) (c .before .n .given .1))
@@ -41,19 +43,26 @@ item-with-requires-2 : tie.Need-item-with-requires-2
 item-with-requires-2 c κs = search needs
 
 returns-2 : tie.Need-returns-2
-returns-2 c = let d = a-date _ _ _ _ (c .before .before .before .before .before .before .before .if1 .taken) (sym (c .before .before .before .before .before .before .digits-at .ensures) ∙ c .before .before .before .before .n .given .1) (sym (c .before .before .is-real-date .ensures) ∙ c .before .if2 .taken) in rw (d .class, d .value, ← c .before .before .before .before .before .before .before .before .number-at .ensures) (c .item-with2 .ensures)
+returns-2 c = let d = a-date _ _ _ _ (c .before .before .before .before .before .before .before .if1 .taken)
+    (sym (c .before .before .before .before .before .before .digits-at .ensures) ∙ c .before .before .before .before .n .given .1)
+    (sym (c .before .before .is-real-date .ensures) ∙ c .before .if2 .taken) in
+    rw (d .class, d .value, ← c .before .before .before .before .before .before .before .before .number-at .ensures) (c .item-with2 .ensures)
 
 item-with-requires-3 : tie.Need-item-with-requires-3
 item-with-requires-3 c κs = search needs
 
 returns-3 : tie.Need-returns-3
-returns-3 c = let d = no-date _ _ _ _ (c .before .before .before .before .before .before .before .if1 .taken) (sym (c .before .before .before .before .before .before .digits-at .ensures) ∙ c .before .before .before .before .n .given .1) (sym (c .before .before .is-real-date .ensures) ∙ c .before .if2 .left) in rw (d .class, d .value, ← c .before .before .before .before .before .before .before .before .number-at .ensures) (c .item-with3 .ensures)
+returns-3 c = let d = no-date _ _ _ _ (c .before .before .before .before .before .before .before .if1 .taken)
+    (sym (c .before .before .before .before .before .before .digits-at .ensures) ∙ c .before .before .before .before .n .given .1)
+    (sym (c .before .before .is-real-date .ensures) ∙ c .before .if2 .left) in
+    rw (d .class, d .value, ← c .before .before .before .before .before .before .before .before .number-at .ensures) (c .item-with3 .ensures)
 
 item-with-requires-4 : tie.Need-item-with-requires-4
 item-with-requires-4 c κs = search needs
 
 returns-4 : tie.Need-returns-4
-returns-4 c = let d = other-length (now (c .before .before .before .before .args .s)) _ _ (c .before .if1 .left) in rw (d .class, d .value, ← c .before .before .number-at .ensures) (c .item-with4 .ensures)
+returns-4 c = let d = other-length (now (c .before .before .before .before .args .s)) _ _ (c .before .if1 .left) in
+    rw (d .class, d .value, ← c .before .before .number-at .ensures) (c .item-with4 .ensures)
 
 pub number-item-spec : {M : Type 1} → statement M
 number-item-spec =

@@ -39,13 +39,17 @@ item-of-requires : tie.Need-item-of-requires
 item-of-requires c κs = search needs
 
 returns : tie.Need-returns
-returns c = let e = timed _ _ _ _ _ (c .before .before .before .before .before .two-at .ensures .0) (c .before .before .before .before .two-at2 .ensures .0) (c .before .before .before .two-at3 .ensures .0) in rw (← e, sym (c .before .before .is-real-time .ensures) ∙ c .before .if1 .taken) (c .item-of .ensures)
+returns c = let e = timed _ _ _ _ _ (c .before .before .before .before .before .two-at .ensures .0)
+    (c .before .before .before .before .two-at2 .ensures .0) (c .before .before .before .two-at3 .ensures .0) in
+    rw (← e, sym (c .before .before .is-real-time .ensures) ∙ c .before .if1 .taken) (c .item-of .ensures)
 
 item-of-requires-2 : tie.Need-item-of-requires-2
 item-of-requires-2 c κs = search needs
 
 returns-2 : tie.Need-returns-2
-returns-2 c = let e = timed _ _ _ _ _ (c .before .before .before .before .before .two-at .ensures .0) (c .before .before .before .before .two-at2 .ensures .0) (c .before .before .before .two-at3 .ensures .0) in rw (← e, sym (c .before .before .is-real-time .ensures) ∙ c .before .if1 .left) (c .item-of2 .ensures)
+returns-2 c = let e = timed _ _ _ _ _ (c .before .before .before .before .before .two-at .ensures .0)
+    (c .before .before .before .before .two-at2 .ensures .0) (c .before .before .before .two-at3 .ensures .0) in
+    rw (← e, sym (c .before .before .is-real-time .ensures) ∙ c .before .if1 .left) (c .item-of2 .ensures)
 
 pub time-item-spec : {M : Type 1} → statement M
 time-item-spec =

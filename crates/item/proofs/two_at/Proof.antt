@@ -23,7 +23,10 @@ cast-result : tie.Need-cast-result
 cast-result c = omega (arith, field-fits 2 _ _ _ (c .before .before .before .digits-at .ensures) (c .before .n .given .1))
 
 returns-2 : tie.Need-returns-2
-returns-2 c = (ap valueOf (sym (sym (c .before .before .before .digits-at .ensures) ∙ c .before .n .given .1)), omega (arith, field-fits 2 _ _ _ (c .before .before .before .digits-at .ensures) (c .before .n .given .1)))
+returns-2 c = (
+  ap valueOf (sym (sym (c .before .before .before .digits-at .ensures) ∙ c .before .n .given .1)),
+  omega (arith, field-fits 2 _ _ _ (c .before .before .before .digits-at .ensures) (c .before .n .given .1)),
+)
 
 pub two-at-spec : {M : Type 1} → statement M
 two-at-spec =

@@ -10,7 +10,8 @@ plain-requires : tie.Need-plain-requires
 plain-requires c κs = search needs
 
 returns : tie.Need-returns
-returns c = let a = c .before .before .before .before .args in both (now (a .file)) (now (a .offsets)) _ _ _ (too-long (now (a .file)) _ (c .before .if1 .taken)) (rw (c .plain .ensures)) refl
+returns c = let a = c .before .before .before .before .args in both (now (a .file)) (now (a .offsets)) _ _ _
+    (too-long (now (a .file)) _ (c .before .if1 .taken)) (rw (c .plain .ensures)) refl
 
 statements-of-requires : tie.Need-statements-of-requires
 statements-of-requires c κs = search needs
@@ -25,16 +26,29 @@ same-length : tie.Need-same-length
 same-length c = search needs
 
 returns-2 : tie.Need-returns-2
-returns-2 c = let a = c .before .before .before .before .before .before .before .before .before .before .before .before .args in both (now (a .file)) (now (a .offsets)) _ _ _ (taken (now (a .file)) _ (c .before .before .before .before .before .before .before .before .before .if1 .left) _ (c .before .before .before .before .before .before .before .before .statements-of .ensures .0) (c .before .before .before .before .before .before .before .if2 .taken) (c .before .before .before .before .before .before .before .before .statements-of .ensures .1) (c .before .before .before .before .before .before .if3 .taken)) (counts _ _ (c .before .before .before .before .before .before .before .before .statements-of .ensures .1)) (writes _ _ _ _ (c .before .before .before .before .before .before .before .before .statements-of .ensures .1) (c .before .before .fill .ensures))
+returns-2 c = let a = c .before .before .before .before .before .before .before .before .before .before .before .before .args in
+    both (now (a .file)) (now (a .offsets)) _ _ _ (taken (now (a .file)) _
+    (c .before .before .before .before .before .before .before .before .before .if1 .left) _
+    (c .before .before .before .before .before .before .before .before .statements-of .ensures .0)
+    (c .before .before .before .before .before .before .before .if2 .taken)
+    (c .before .before .before .before .before .before .before .before .statements-of .ensures .1)
+    (c .before .before .before .before .before .before .if3 .taken))
+    (counts _ _ (c .before .before .before .before .before .before .before .before .statements-of .ensures .1))
+    (writes _ _ _ _ (c .before .before .before .before .before .before .before .before .statements-of .ensures .1) (c .before .before .fill .ensures))
 
 plain-requires-2 : tie.Need-plain-requires-2
 plain-requires-2 c κs = search needs
 
 returns-3 : tie.Need-returns-3
-returns-3 c = let a = c .before .before .before .before .before .before .before .args in both (now (a .file)) (now (a .offsets)) _ _ _ (crowded (now (a .file)) _ (c .before .before .before .before .if1 .left) _ (c .before .before .before .statements-of .ensures .0) (c .before .before .if2 .taken) (c .before .before .before .statements-of .ensures .1) (c .before .if3 .left)) (rw (c .plain2 .ensures)) refl
+returns-3 c = let a = c .before .before .before .before .before .before .before .args in
+    both (now (a .file)) (now (a .offsets)) _ _ _ (crowded (now (a .file)) _ (c .before .before .before .before .if1 .left) _
+    (c .before .before .before .statements-of .ensures .0) (c .before .before .if2 .taken) (c .before .before .before .statements-of .ensures .1)
+    (c .before .if3 .left)) (rw (c .plain2 .ensures)) refl
 
 returns-4 : tie.Need-returns-4
-returns-4 c = let a = c .before .before .before .before .before .before .args in both (now (a .file)) (now (a .offsets)) _ _ _ (broken (now (a .file)) _ (c .before .before .before .if1 .left) (c .before .before .statements-of .result) (c .before .before .statements-of .ensures .0) (c .before .if2 .left)) refl refl
+returns-4 c = let a = c .before .before .before .before .before .before .args in
+    both (now (a .file)) (now (a .offsets)) _ _ _ (broken (now (a .file)) _ (c .before .before .before .if1 .left)
+    (c .before .before .statements-of .result) (c .before .before .statements-of .ensures .0) (c .before .if2 .left)) refl refl
 
 pub read-job-spec : {M : Type 1} → statement M
 read-job-spec =

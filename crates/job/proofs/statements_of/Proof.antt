@@ -31,34 +31,87 @@ enum-told : tie.Need-enum-told Inv-loop μ-loop
 enum-told c = search needs
 
 returns : tie.Need-returns Inv-loop μ-loop
-returns c = (all-read _ _ _ _ _ (c .before .before .before .before .loop .inv .0) (c .before .before .before .before .loop .inv .1) (c .before .before .before .before .loop .inv .2) _ (c .before .before .before .next-item .ensures .is) _ (c .before .before .step-of .ensures) (c .enum-told .given .1), omega arith)
+returns c = (
+  all-read _ _ _ _ _ (c .before .before .before .before .loop .inv .0) (c .before .before .before .before .loop .inv .1)
+      (c .before .before .before .before .loop .inv .2) _ (c .before .before .before .next-item .ensures .is) _ (c .before .before .step-of .ensures)
+      (c .enum-told .given .1),
+  omega arith,
+)
 
 enum-known-refusal : tie.Need-enum-known-refusal Inv-loop μ-loop
 enum-known-refusal c = search needs
 
 returns-2 : tie.Need-returns-2 Inv-loop μ-loop
-returns-2 c = (stopped _ _ _ _ _ (c .before .before .before .before .before .loop .inv .0) (c .before .before .before .before .before .loop .inv .1) (c .before .before .before .before .before .loop .inv .2) _ (c .before .before .before .before .next-item .ensures .is) _ (c .before .before .before .step-of .ensures) _ (c .before .refusal .given .1), omega arith)
+returns-2 c = (
+  stopped _ _ _ _ _ (c .before .before .before .before .before .loop .inv .0) (c .before .before .before .before .before .loop .inv .1)
+      (c .before .before .before .before .before .loop .inv .2) _ (c .before .before .before .before .next-item .ensures .is) _
+      (c .before .before .before .step-of .ensures) _ (c .before .refusal .given .1),
+  omega arith,
+)
 
 enum-known-next : tie.Need-enum-known-next Inv-loop μ-loop
 enum-known-next c = search needs
 
 cast-places : tie.Need-cast-places Inv-loop μ-loop
-cast-places c = omega (arith, in-file _ _ _ _ _ (c .before .before .before .before .before .before .loop .inv .0) (c .before .before .before .before .before .before .loop .inv .1) (c .before .before .before .before .before .before .loop .inv .2) _ (c .before .before .before .before .before .next-item .ensures .is) _ (c .before .before .before .before .step-of .ensures) _ (c .before .before .next .given .1))
+cast-places c = omega (
+  arith,
+  in-file _ _ _ _ _ (c .before .before .before .before .before .before .loop .inv .0)
+      (c .before .before .before .before .before .before .loop .inv .1) (c .before .before .before .before .before .before .loop .inv .2) _
+      (c .before .before .before .before .before .next-item .ensures .is) _ (c .before .before .before .before .step-of .ensures) _
+      (c .before .before .next .given .1),
+)
 
 mul-places : tie.Need-mul-places Inv-loop μ-loop
-mul-places c = omega (arith, room _ _ _ _ _ (c .before .before .before .before .before .before .loop .inv .0) (c .before .before .before .before .before .before .loop .inv .1) (c .before .before .before .before .before .before .loop .inv .2) _ (c .before .before .before .before .before .next-item .ensures .is) _ (c .before .before .before .before .step-of .ensures) _ (c .before .before .next .given .1))
+mul-places c = omega (
+  arith,
+  room _ _ _ _ _ (c .before .before .before .before .before .before .loop .inv .0)
+      (c .before .before .before .before .before .before .loop .inv .1) (c .before .before .before .before .before .before .loop .inv .2) _
+      (c .before .before .before .before .before .next-item .ensures .is) _ (c .before .before .before .before .step-of .ensures) _
+      (c .before .before .next .given .1),
+)
 
 array-write-places : tie.Need-array-write-places Inv-loop μ-loop
-array-write-places c = omega (arith, room _ _ _ _ _ (c .before .before .before .before .before .before .loop .inv .0) (c .before .before .before .before .before .before .loop .inv .1) (c .before .before .before .before .before .before .loop .inv .2) _ (c .before .before .before .before .before .next-item .ensures .is) _ (c .before .before .before .before .step-of .ensures) _ (c .before .before .next .given .1))
+array-write-places c = omega (
+  arith,
+  room _ _ _ _ _ (c .before .before .before .before .before .before .loop .inv .0)
+      (c .before .before .before .before .before .before .loop .inv .1) (c .before .before .before .before .before .before .loop .inv .2) _
+      (c .before .before .before .before .before .next-item .ensures .is) _ (c .before .before .before .before .step-of .ensures) _
+      (c .before .before .next .given .1),
+)
 
 add-k : tie.Need-add-k Inv-loop μ-loop
-add-k c = omega (arith, room _ _ _ _ _ (c .before .before .before .before .before .before .loop .inv .0) (c .before .before .before .before .before .before .loop .inv .1) (c .before .before .before .before .before .before .loop .inv .2) _ (c .before .before .before .before .before .next-item .ensures .is) _ (c .before .before .before .before .step-of .ensures) _ (c .before .before .next .given .1))
+add-k c = omega (
+  arith,
+  room _ _ _ _ _ (c .before .before .before .before .before .before .loop .inv .0)
+      (c .before .before .before .before .before .before .loop .inv .1) (c .before .before .before .before .before .before .loop .inv .2) _
+      (c .before .before .before .before .before .next-item .ensures .is) _ (c .before .before .before .before .step-of .ensures) _
+      (c .before .before .next .given .1),
+)
 
 loop-less : tie.Need-loop-less Inv-loop μ-loop
-loop-less c = omega (arith, room _ _ _ _ _ (c .before .before .before .before .before .before .loop .inv .0) (c .before .before .before .before .before .before .loop .inv .1) (c .before .before .before .before .before .before .loop .inv .2) _ (c .before .before .before .before .before .next-item .ensures .is) _ (c .before .before .before .before .step-of .ensures) _ (c .before .before .next .given .1))
+loop-less c = omega (
+  arith,
+  room _ _ _ _ _ (c .before .before .before .before .before .before .loop .inv .0)
+      (c .before .before .before .before .before .before .loop .inv .1) (c .before .before .before .before .before .before .loop .inv .2) _
+      (c .before .before .before .before .before .next-item .ensures .is) _ (c .before .before .before .before .step-of .ensures) _
+      (c .before .before .next .given .1),
+)
 
 loop-again : tie.Need-loop-again Inv-loop μ-loop
-loop-again c = (again _ _ _ _ _ (c .before .before .before .before .before .before .loop .inv .0) (c .before .before .before .before .before .before .loop .inv .1) (c .before .before .before .before .before .before .loop .inv .2) _ (c .before .before .before .before .before .next-item .ensures .is) _ (c .before .before .before .before .step-of .ensures) _ (c .before .before .next .given .1), omega (arith, room _ _ _ _ _ (c .before .before .before .before .before .before .loop .inv .0) (c .before .before .before .before .before .before .loop .inv .1) (c .before .before .before .before .before .before .loop .inv .2) _ (c .before .before .before .before .before .next-item .ensures .is) _ (c .before .before .before .before .step-of .ensures) _ (c .before .before .next .given .1)), rw length-set (c .before .before .before .before .before .before .loop .inv .2))
+loop-again c = (
+  again _ _ _ _ _ (c .before .before .before .before .before .before .loop .inv .0)
+      (c .before .before .before .before .before .before .loop .inv .1) (c .before .before .before .before .before .before .loop .inv .2) _
+      (c .before .before .before .before .before .next-item .ensures .is) _ (c .before .before .before .before .step-of .ensures) _
+      (c .before .before .next .given .1),
+  omega (
+    arith,
+    room _ _ _ _ _ (c .before .before .before .before .before .before .loop .inv .0)
+        (c .before .before .before .before .before .before .loop .inv .1) (c .before .before .before .before .before .before .loop .inv .2) _
+        (c .before .before .before .before .before .next-item .ensures .is) _ (c .before .before .before .before .step-of .ensures) _
+        (c .before .before .next .given .1),
+  ),
+  rw length-set (c .before .before .before .before .before .before .loop .inv .2),
+)
 
 pub statements-of-spec : {M : Type 1} → statement M
 statements-of-spec =

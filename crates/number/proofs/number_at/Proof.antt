@@ -19,7 +19,9 @@ scale-requires : tie.Need-scale-requires
 scale-requires c κs = search needs
 
 returns : tie.Need-returns
-returns c = rw (toZ-ofZ w64 (c .before .signed .result) (record { sfits = c .before .signed .ok })) (is-number _ _ _ (c .before .before .before .before .before .pre .0) (c .before .before .before .before .before .pre .1) _ _ _ (c .before .signed .ensures) (c .before .before .magnitude .ensures .0) (c .scale .ensures))
+returns c = rw (toZ-ofZ w64 (c .before .signed .result) (record { sfits = c .before .signed .ok }))
+    (is-number _ _ _ (c .before .before .before .before .before .pre .0) (c .before .before .before .before .before .pre .1) _ _ _
+    (c .before .signed .ensures) (c .before .before .magnitude .ensures .0) (c .scale .ensures))
 
 pub number-at-spec : {M : Type 1} → statement M
 number-at-spec =

@@ -39,8 +39,13 @@ get-head-requires c κs =
 reply-length-requires : tie.Need-reply-length-requires
 reply-length-requires c κs =
     let pre = c .before .before .before .before .before .before .before .before .before .before .pre in
-    let found = found-at _ _ (c .before .before .before .before .before .before .ready-session .ensures) _ (c .before .before .before .before .s .given .1) in
-    (sound-size _ (pre .0), ready-stands _ _ _ (pre .0) (pre .1) _ found .below, ready-few _ _ _ (pre .0) (pre .1) _ found _ (c .before .get-head .ensures))
+    let found = found-at _ _ (c .before .before .before .before .before .before .ready-session .ensures) _ (c .before .before .before
+    .before .s .given .1) in (
+      sound-size _ (pre .0),
+      ready-stands _ _ _ (pre .0) (pre .1) _ found .below,
+      ready-few _ _ _ (pre .0) (pre .1) _ found _ (c
+          .before .get-head .ensures),
+    )
 
 plain-requires-2 : tie.Need-plain-requires-2
 plain-requires-2 c κs = search needs
@@ -79,7 +84,8 @@ write-reply-requires c κs =
 
 open-number-requires : tie.Need-open-number-requires
 open-number-requires c κs =
-    let pre = c .before .before .before .before .before .before .before .before .before .before .before .before .before .before .before .before .before .before .pre in
+    let pre = c .before .before .before .before .before .before .before .before .before .before .before .before .before .before .before
+    .before .before .before .pre in
     let found = found-at _ _
     (c .before .before .before .before .before .before .before .before .before .before .before .before .before .before .ready-session .ensures) _
     (c .before .before .before .before .before .before .before .before .before .before .before .before .s .given .1) in
@@ -93,9 +99,12 @@ same-length-4 c = search needs
 
 returns-3 : tie.Need-returns-3
 returns-3 c =
-    let pre = c .before .before .before .before .before .before .before .before .before .before .before .before .before .before .before .before .before .before .before .before .before .pre in
+    let pre = c .before .before .before .before .before .before .before .before .before .before .before .before .before .before .before
+    .before .before .before .before .before .before .pre in
     let found = found-at _ _
-    (c .before .before .before .before .before .before .before .before .before .before .before .before .before .before .before .before .before .ready-session .ensures) _ (c .before .before .before .before .before .before .before .before .before .before .before .before .before .before .before .s .given .1) in
+    (c .before .before .before .before .before .before .before .before .before .before .before .before .before .before .before .before
+    .before .ready-session .ensures) _ (c .before .before .before .before .before .before .before .before .before .before .before
+    .before .before .before .before .s .given .1) in
     let reply = ready-reply _ _ _ (pre .0) (pre .1) _ found _
     (c .before .before .before .before .before .before .before .before .before .before .before .before .get-head .ensures) in
     collects-is _ _ _ _ (collectable-at _ _ _ _ (pre .0) (pre .1) _ found
@@ -105,7 +114,8 @@ returns-3 c =
       c .before .before .before .before .before .before .before .before .before .before .reply-length .ensures,
       ap length reply,
     )))
-    _ (found-number _ found) _ _ _ reply (c .before .before .before .before .before .before .write-reply .ensures) (c .before .before .open-number .ensures)
+    _ (found-number _ found) _ _ _ reply (c .before .before .before .before .before .before .write-reply .ensures) (c .before
+    .before .open-number .ensures)
 
 pub collect-ready-spec : {M : Type 1} → statement M
 collect-ready-spec =

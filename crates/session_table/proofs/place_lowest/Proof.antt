@@ -67,7 +67,8 @@ put-head-requires c κs = (
 put-last-requires : tie.Need-put-last-requires
 put-last-requires c κs =
     let z = sound-size _
-    (c .before .before .before .before .before .before .before .before .before .before .before .before .before .before .before .before .before .before .pre .0) in search needs
+    (c .before .before .before .before .before .before .before .before .before .before .before .before .before .before .before .before
+    .before .before .pre .0) in search needs
 
 same-length-3 : tie.Need-same-length-3
 same-length-3 c = search needs
@@ -75,17 +76,21 @@ same-length-3 c = search needs
 returns-3 : tie.Need-returns-3
 unfolding paperPlaced tableOf
 returns-3 c =
-    let pre = c .before .before .before .before .before .before .before .before .before .before .before .before .before .before .before .before .before .before .before .before .before .pre in
+    let pre = c .before .before .before .before .before .before .before .before .before .before .before .before .before .before .before
+    .before .before .before .before .before .before .pre in
     let found =
     found-at _ _
-    (c .before .before .before .before .before .before .before .before .before .before .before .before .before .before .before .before .before .before .lowest-open .ensures) _
-    (c .before .before .before .before .before .before .before .before .before .before .before .before .before .before .before .before .s .given .1) in
+    (c .before .before .before .before .before .before .before .before .before .before .before .before .before .before .before .before
+    .before .before .lowest-open .ensures) _
+    (c .before .before .before .before .before .before .before .before .before .before .before .before .before .before .before
+    .before .s .given .1) in
     let last = ap (λ x. x .last .0)
     (c .before .before .before .before .before .before .before .before .before .before .before .before .before .get-table .ensures) in
     let room = c .before .before .before .before .before .before .before .before .before .before .if1 .left in (
       place-gives _ _ _ (pre .0) (pre .1) _ found _ last room,
       place-writes _ _ _ (pre .0) (pre .1) _ found _ last room _ _ _
-          (c .before .before .before .before .before .before .before .placed .ensures) (c .before .before .before .before .before .before .put-head .ensures)
+          (c .before .before .before .before .before .before .before .placed .ensures) (c .before .before .before .before .before
+          .before .put-head .ensures)
           (c .before .before .put-last .ensures),
     )
 

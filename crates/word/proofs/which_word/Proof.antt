@@ -42,7 +42,11 @@ which-word-spec =
     (λ c. rw (c .before .before .before .before .match .keys2) (rw (c .before .before .word-or2 .ensures) at (c .word-or3 .ensures)))
     (λ c.
     rw (c .before .before .before .before .before .before .before .before .match .keys3)
-    (rw (c .before .before .word-or6 .ensures, c .before .before .before .before .word-or5 .ensures, c .before .before .before .before .before .before .word-or4 .ensures)
+    (rw (
+      c .before .before .word-or6 .ensures,
+      c .before .before .before .before .word-or5 .ensures,
+      c .before .before .before .before .before .before .word-or4 .ensures,
+    )
     at (c .word-or7 .ensures)))
     (λ c.
     rw (c .before .before .before .before .before .before .match .keys4)
@@ -53,4 +57,12 @@ which-word-spec =
     (λ c. rw (c .before .before .match .keys7) (c .word-or14 .ensures))
     (λ c.
     let r = c .match .rest in
-    rw (ne-eqb _ 3 (r .0 .0 .0 .0 .0 .0 .1), ne-eqb _ 4 (r .0 .0 .0 .0 .0 .1), ne-eqb _ 5 (r .0 .0 .0 .0 .1), ne-eqb _ 6 (r .0 .0 .0 .1), ne-eqb _ 7 (r .0 .0 .1), ne-eqb _ 8 (r .0 .1), ne-eqb _ 9 (r .1))))
+    rw (
+      ne-eqb _ 3 (r .0 .0 .0 .0 .0 .0 .1),
+      ne-eqb _ 4 (r .0 .0 .0 .0 .0 .1),
+      ne-eqb _ 5 (r .0 .0 .0 .0 .1),
+      ne-eqb _ 6 (r .0 .0 .0 .1),
+      ne-eqb _ 7 (r .0 .0 .1),
+      ne-eqb _ 8 (r .0 .1),
+      ne-eqb _ 9 (r .1),
+    )))

@@ -23,4 +23,9 @@ word-at-spec =
     (λ c. search needs)
     (λ c κs. search needs)
     (λ c.
-    rw (sym (c .before .before .before .before .has-at .ensures) ∙ c .before .before .before .if1 .left, ← c .before .before .run-end .ensures .is, le-ltb _ _ (c .before .if2 .left), c .which-word .ensures)))
+    rw (
+      sym (c .before .before .before .before .has-at .ensures) ∙ c .before .before .before .if1 .left,
+      ← c .before .before .run-end .ensures .is,
+      le-ltb _ _ (c .before .if2 .left),
+      c .which-word .ensures,
+    )))
