@@ -19,7 +19,7 @@ use Rattle.word.specs.Word.{wordRead}
 use Rattle.word.specs.declared.Word.{Word as ReservedOrName}
 use Rattle.word.specs.declared.WordRead.{WordRead}
 use Rattle.word.specs.declared.WordRead.the-variants.{Is, NoWord}
-use Rattle.word.proofs.Words.{Within, ends-within}
+use Rattle.word.proofs.Words.{EndsAfter, ends-after}
 use Rattle.token.specs.declared.Operator.{Operator}
 use Rattle.token.specs.declared.Why.{Why}
 use Rattle.token.specs.declared.Token.{Token}
@@ -84,7 +84,7 @@ module _ (s : List ℕ) (i : ℕ) where
       go true l = ltb-true _ _ l
       go false l = absurd (true≢false (sym e ∙ ap p (List·getD-eq-default s 0 (ltb-false _ _ l)) ∙ z))
 
-  word : i < length s → (r : WordRead) → Within s i r → Ahead s i (wordToken i r)
+  word : i < length s → (r : WordRead) → EndsAfter s i r → Ahead s i (wordToken i r)
   word l (Is w b) h = a-word {b = b} (omega arith)
   word l NoWord h = no-token l
 
@@ -145,7 +145,7 @@ module _ (s : List ℕ) (i : ℕ) where
   unfolding tokenAt
   ahead =
       choice (Ahead s i) (ltb i (length s))
-      (λ l. choice (Ahead s i) (isLetter (getD s i 0)) (λ e. word (ltb-true _ _ l) (wordRead s i) (ends-within s i (ltb-true _ _ l) e))
+      (λ l. choice (Ahead s i) (isLetter (getD s i 0)) (λ e. word (ltb-true _ _ l) (wordRead s i) (ends-after s i (ltb-true _ _ l) e))
       (λ n. choice (Ahead s i) (isDigit (getD s i 0) || eqb (getD s i 0) 45) (λ e. numeric (ltb-true _ _ l) e)
       (λ m. either (eqb (getD s i 0) 34) (text (ltb-true _ _ l)) (sign (ltb-true _ _ l)))))
       (λ l. the-end (ltb-false _ _ l))

@@ -20,16 +20,16 @@ use Rattle.word.specs.declared.WordRead.{WordRead}
 use Rattle.word.specs.declared.WordRead.the-variants.{Is, NoWord}
 
 -- the word, if there is one, ends after i, within the file
-abbrev pub Within : List ℕ → ℕ → WordRead → Type 0
-Within s i (Is w e) = (i < e) × (e ≤ length s)
-Within s i NoWord = Unit {0}
+abbrev pub EndsAfter : List ℕ → ℕ → WordRead → Type 0
+EndsAfter s i (Is w e) = (i < e) × (e ≤ length s)
+EndsAfter s i NoWord = Unit {0}
 
-pub ends-within : (s : List ℕ) (i : ℕ) → i < length s → isLetter (getD s i 0) ≡ true → Within s i (wordRead s i)
+pub ends-after : (s : List ℕ) (i : ℕ) → i < length s → isLetter (getD s i 0) ≡ true → EndsAfter s i (wordRead s i)
 unfolding wordRead
-ends-within s i l e = go (hasAt s i (ascii "TIME>=")) (ltb (i + wordBytes) (runEnd isWordByte s i)) refl
+ends-after s i l e = go (hasAt s i (ascii "TIME>=")) (ltb (i + wordBytes) (runEnd isWordByte s i)) refl
   where
     go : (a b : Bool) → hasAt s i (ascii "TIME>=") ≡ a
-        → Within s i (cond a (Is TimeGe (i + 6)) (cond b NoWord (Is (whichWord s i (runEnd isWordByte s i - i)) (runEnd isWordByte s i))))
+        → EndsAfter s i (cond a (Is TimeGe (i + 6)) (cond b NoWord (Is (whichWord s i (runEnd isWordByte s i - i)) (runEnd isWordByte s i))))
     go true b h = omega (arith, has-room s i (ascii "TIME>=") (omega arith) h)
     go false true h = tt
     go false false h = (run-some isWordByte s i l (rw e), run-inside isWordByte s i (omega arith))
