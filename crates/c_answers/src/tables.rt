@@ -3,7 +3,7 @@ use crate::refusal;
 use session_table::Answered;
 use session_table::Collected;
 use session_table::Made;
-use session_table::Placed;
+use session_table::SessionPlaced;
 use session_table::TakenUp;
 ghost use mathlib.Core.Path.{_≡_};
 ghost use Rattle.session_table.specs.Paper.{paperMade, paperPlaced, paperTakenUp, paperAnswered, paperCollected};
@@ -18,16 +18,16 @@ pub fn give_made(a: Made) -> u64
     }
 }
 
-pub fn give_placed(a: Placed, number: &mut u32, ticket: &mut u32) -> u64
+pub fn give_placed(a: SessionPlaced, number: &mut u32, ticket: &mut u32) -> u64
     ensures { λ r. ⌜ GivesPlaced (paperPlaced a) r (now (number .entry)) (now (number .exit)) (now (ticket .entry)) (now (ticket .exit)) ⌝ }
 {
     match a {
-        Placed::At(s, t) => {
+        SessionPlaced::At(s, t) => {
             *number = s.0;
             *ticket = t.0;
             0
         }
-        Placed::Refused(f) => refusal(f),
+        SessionPlaced::Refused(f) => refusal(f),
     }
 }
 

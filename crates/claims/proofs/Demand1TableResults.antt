@@ -12,8 +12,8 @@ use Rattle.session_table.specs.Collect.{Collects}
 use Rattle.session_table.specs.Paper.{paperMade, paperPlaced, paperTakenUp, paperAnswered, paperCollected}
 use Rattle.session_table.specs.declared.Made.{Made}
 use Rattle.session_table.specs.declared.Made.the-variants.{Fresh, Refused as NotMade}
-use Rattle.session_table.specs.declared.Placed.{Placed}
-use Rattle.session_table.specs.declared.Placed.the-variants.{At, Refused as NotPlaced}
+use Rattle.session_table.specs.declared.SessionPlaced.{SessionPlaced}
+use Rattle.session_table.specs.declared.SessionPlaced.the-variants.{At, Refused as NotPlaced}
 use Rattle.session_table.specs.declared.TakenUp.{TakenUp}
 use Rattle.session_table.specs.declared.TakenUp.the-variants.{Given, Refused as NotTakenUp}
 use Rattle.session_table.specs.declared.Answered.{Answered}
@@ -58,7 +58,7 @@ made-all Fresh (NotMade r) h = absurd (refused-not-done (sym h))
 made-all (NotMade r) Fresh h = absurd (refused-not-done h)
 made-all (NotMade r) (NotMade t) h = ap NotMade (same-refusal (cc) (cc))
 
-placed-all : (a b : Placed) → paperPlaced a ≡ paperPlaced b → a ≡ b
+placed-all : (a b : SessionPlaced) → paperPlaced a ≡ paperPlaced b → a ≡ b
 unfolding paperPlaced
 placed-all (At s t) (At s′ t′) h =
     let p : _≡_ {A = ℕ × ℕ} (s .0, t .0) (s′ .0, t′ .0) = cc in

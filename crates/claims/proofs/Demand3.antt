@@ -7,6 +7,7 @@ use native.Mathlib.Omega.{arith}
 use lib.ListN.{length}
 use lib.Seq.{take-append-seam, drop-append-seam}
 use borrow.Author.Tests.{le-leb}
+use Rattle.laws.proofs.Choose.{halves}
 use Rattle.counts.specs.Limits.{commands}
 use Rattle.counts.specs.Refusals.{outOfRange, unsound}
 use Rattle.counts.specs.Result.{refused, done}
@@ -17,7 +18,7 @@ use Rattle.scan.specs.Run.{run, runEnd}
 use Rattle.sessions.proofs.Agrees.{Agrees, fresh-agrees, agrees}
 use Rattle.sessions.proofs.Claims as without-bytes
 use Rattle.sessions.proofs.Did.{stepTable, did, anew-exactly as anew-without}
-use Rattle.sessions.proofs.Laws.{halves, records-append}
+use Rattle.sessions.proofs.Laws.{records-append}
 use Rattle.sessions.proofs.Past.{accepted-at}
 use Rattle.sessions.proofs.Progress.{taken-is-answered, unanswered-is-given}
 use Rattle.sessions.proofs.Runs.{refuses-alike}

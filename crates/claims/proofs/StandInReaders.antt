@@ -5,7 +5,7 @@ use mathlib.Core.List.{List, [], _∷_}
 use native.Mathlib.Omega.{arith}
 use lib.ListN.{length}
 use Rattle.counts.specs.Result.{Result, done, counted, refused}
-use Rattle.counts.proofs.Results.{refused-not-done}
+use Rattle.counts.proofs.Results.{refused-not-done, done-same}
 use Rattle.field.specs.Bytes.{ascii, same, hasAt}
 use Rattle.field.specs.Part.{part}
 use Rattle.scan.specs.Run.{run, runEnd, blank, blankEnd}
@@ -26,9 +26,6 @@ use Rattle.claims.specs.Demands.{Reader, Reads}
 use Rattle.claims.specs.StandIns.{ReaderRefuses, OneReading, MakesUpCount, StatementReader, ReadsStatements, StatementRefuses, OneStatement}
 use Rattle.claims.proofs.Demand1Statements.{read-statement-exactly}
 use Rattle.job.specs.declared.StatementAt.{StatementAt}
-
-pub same-done : {A : Type 0} {x y : A} → done x ≡ done y → x ≡ y
-same-done e = cc
 
 -- ---- readers: two files of one length, with one statement and with two
 
@@ -115,7 +112,7 @@ unfolding counts-one saysOne
 makes-up file offsets n = go (readJob file (length offsets))
   where
     go : (x : Reading) → saysOne x ≡ done n → n ≡ 1
-    go (done os) e = sym (same-done e)
+    go (done os) e = sym (done-same e)
     go (refused k p) e = absurd (refused-not-done e)
 
 -- ---- a reader that finds GETINFO everywhere
@@ -125,4 +122,4 @@ getinfo file at = done (placedAt (GetInfo 0) at (at + 1))
 
 pub only-getinfo : OneStatement getinfo (GetInfo 0)
 unfolding getinfo
-only-getinfo file at y e = ap (λ (x : StatementAt). x .statement) (sym (same-done e))
+only-getinfo file at y e = ap (λ (x : StatementAt). x .statement) (sym (done-same e))

@@ -8,7 +8,7 @@ use lib.ListN.{length, length-append, replicate, length-replicate}
 use borrow.Author.Tests.{eq-eqb, le-leb}
 use Rattle.calendar.specs.Calendar.{februaryLength, monthLength, realDate, realTime}
 use Rattle.counts.specs.Result.{Result, done}
-use Rattle.counts.proofs.Results.{refused-not-done}
+use Rattle.counts.proofs.Results.{refused-not-done, done-same}
 use Rattle.decimal.specs.Digits.{digits, widthFrom, plainWidth, plain}
 use Rattle.scan.specs.Run.{run}
 use Rattle.moment.specs.Moment.{realMoment, momentBytes}
@@ -33,7 +33,7 @@ use Rattle.claims.specs.Demands.{Serves, Demand3}
 use Rattle.claims.specs.StandIns.{Request, Run, bytesBy, historyBy, SaysAccepted, DoesNothing, PlacesByRows, Invented, Invents, HandsOver, HoldsBack, PlaceCall, TakeUpCall, CollectCall, PlaceRefuses, TakeUpRefuses, CollectRefuses, IsRefused, Refuted}
 use Rattle.claims.specs.TableRows.{PlaceRow, TakeUpRow, CollectRow}
 use Rattle.claims.proofs.Demand1Table.{place-exactly, take-up-exactly, collect-exactly}
-use Rattle.claims.proofs.StandInReaders.{same-done, reader-must-take, reader-must-look, statement-must-be-read, statement-must-look, statements-not-made-up}
+use Rattle.claims.proofs.StandInReaders.{reader-must-take, reader-must-look, statement-must-be-read, statement-must-look, statements-not-made-up}
 
 -- ---- tables that calls reach on lent bytes: program 1 places a request of one command; it is taken up; it is answered
 
@@ -163,7 +163,7 @@ module _ (fresh : ℕ → List ℕ) (step : Step) (meets : Demand3 fresh step) w
     table-must-hand-over : DoesNothing step → ⊥
     table-must-hand-over never =
         let e = stays never (fresh (w .run .max)) (w .run .calls) ∙ ap fresh (w .one-max) ∙ sym (stays never (fresh (w .other .max)) (w .other .calls)) in
-        w .they-differ (same-done (handed (sym hands-these ∙ ap (λ (b : List ℕ). step b (toCollect p t both) .0) e ∙ hands-those)))
+        w .they-differ (done-same (handed (sym hands-these ∙ ap (λ (b : List ℕ). step b (toCollect p t both) .0) e ∙ hands-those)))
 
   commands-not-made-up : (n k : ℕ) → (n ≡ k → ⊥) → HandsOver fresh step n k → ⊥
   unfolding historyOf reached gather placing neverAnew

@@ -11,6 +11,9 @@ module _ {A : Type 0} where
   pub refused-not-done : {n p : ℕ} {a : A} → refused n p ≡ done a → ⊥
   refused-not-done h = let z : _≡_ {A = ℕ} 0 1 = cc in omega arith
 
+  pub done-same : {x y : A} → done x ≡ done y → x ≡ y
+  done-same e = cc
+
   -- a test that would have refused was passed
   pub passed : (t : Bool) (x : Result A) (n p : ℕ) {a : A} → cond t x (refused n p) ≡ done a → (t ≡ true) × (x ≡ done a)
   passed true x n p h = (refl, h)

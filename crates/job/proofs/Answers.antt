@@ -15,7 +15,7 @@ use Rattle.grammar.specs.Reading.{OffsetsRead}
 use Rattle.item.proofs.Lines.{line-tokens}
 use Rattle.job.specs.Job.{onRoom, readJob, filled}
 use Rattle.job.specs.Loop.{jobLoop, foundOf}
-use Rattle.job.specs.declared.Found.{Found}
+use Rattle.job.specs.declared.StatementsFound.{StatementsFound}
 use Rattle.job.proofs.Bridge.{by-statements}
 
 -- the answer and the table at exit, of an answer v
@@ -27,7 +27,7 @@ pub too-long : (s : List ℕ) (room : ℕ) → fileBytes < length s → readJob 
 unfolding readJob
 too-long s room l = rw (lt-leb _ _ l)
 
-module _ (s : List ℕ) (room : ℕ) (short : length s ≤ fileBytes) (f : Found) (is : foundOf f ≡ jobLoop s (statements + 1) [] 0) where
+module _ (s : List ℕ) (room : ℕ) (short : length s ≤ fileBytes) (f : StatementsFound) (is : foundOf f ≡ jobLoop s (statements + 1) [] 0) where
   reads : readJob s room ≡ onRoom room (foundOf f)
   unfolding readJob
   reads = rw (le-leb _ _ short) (ap (onRoom room) (sym (by-statements s (line-tokens s)) ∙ sym is))

@@ -31,9 +31,9 @@ use Rattle.statement.specs.declared.StatementRead.{StatementRead}
 use Rattle.statement.specs.declared.StatementRead.the-variants.{Is, Refused}
 use Rattle.statement.proofs.Along.{any-kind}
 use Rattle.statement.proofs.Bridge.{Reads, rest-reads}
-use Rattle.job.specs.Loop.{stop, stepRead, stepInto, stepOf, onStep, jobLoop}
+use Rattle.job.specs.Loop.{refuse, stepRead, stepInto, stepOf, onStep, jobLoop}
 use Rattle.job.specs.declared.Step.{Step}
-use Rattle.job.specs.declared.Step.the-variants.{Over, Stop}
+use Rattle.job.specs.declared.Step.the-variants.{Over, RefusedAt}
 
 -- at the start only JOB may stand, and later any statement but JOB: the first where it is so, else the second
 abbrev byJob : {A : Type 0} → List ℕ → Bool → A → A → A
@@ -63,8 +63,8 @@ opening-is os rs t = go os (isClass (t .class) JOB) refl
 
 -- what stands between statements, by the tests
 tested : (s : List ℕ) (k : ℕ) (t : Item) (a b f z : Bool) → eqb (t .class) endNo ≡ a → ltb endNo (t .class) ≡ b → eqb k statements ≡ f → eqb k 0 ≡ z
-    → stepOf s k t ≡ cond a (cond z (stop (refusalNo (t .class)) t) Over)
-    (cond b (stop (refusalNo (t .class)) t) (cond f (stop tooManyStatements t) (stepInto s k t)))
+    → stepOf s k t ≡ cond a (cond z (refuse (refusalNo (t .class)) t) Over)
+    (cond b (refuse (refusalNo (t .class)) t) (cond f (refuse tooManyStatements t) (stepInto s k t)))
 unfolding stepOf
 tested s k t a b f z p q r o = rw (p, q, r, o)
 
@@ -100,14 +100,14 @@ module _ (s : List ℕ) where
 
   into : (os : List ℕ) (i : ℕ) (u : Placed) → Shows (itemAt 0 s i) (item u)
       → stepInto s (length os) (itemAt 0 s i)
-      ≡ byJob os (isClass (u .class) JOB) (stepRead (readFrom 0 s statement tt i)) (Stop (refusal unexpected (u .place)))
+      ≡ byJob os (isClass (u .class) JOB) (stepRead (readFrom 0 s statement tt i)) (RefusedAt (refusal unexpected (u .place)))
   unfolding stepInto
   into [] i u (a-token c p n) = rw (any-kind s i, c, p)
   into (o ∷ os) i u (a-token c p n) = rw (ne-eqb (length (o ∷ os)) 0 (λ z. omega arith), any-kind s i, c, p)
 
   one-step : (os : List ℕ) (i : ℕ) (u : Placed) → length os < statements → Shows (itemAt 0 s i) (item u)
       → stepOf s (length os) (itemAt 0 s i)
-      ≡ byJob os (isClass (u .class) JOB) (stepRead (readFrom 0 s statement tt i)) (Stop (refusal unexpected (u .place)))
+      ≡ byJob os (isClass (u .class) JOB) (stepRead (readFrom 0 s statement tt i)) (RefusedAt (refusal unexpected (u .place)))
   one-step os i u l (a-token c p n) =
       tested s (length os) (itemAt 0 s i) false false false _ (not-end (itemAt 0 s i) (u .class) c) (not-above (itemAt 0 s i) (u .class) c)
       (ne-eqb (length os) statements (λ z. omega arith)) refl
@@ -134,11 +134,11 @@ module _ (s : List ℕ) where
     any-goes (Is x b) y = later b (y .0) (y .1) ∙ sym (y .2)
     any-goes (Refused r) y = sym y
 
-    stops : goes (Stop (refusal unexpected (t .place))) ≡ so (refusedAt unexpected (t .place))
+    stops : goes (RefusedAt (refusal unexpected (t .place))) ≡ so (refusedAt unexpected (t .place))
     stops = sym (ap (λ (x : State). close x z) (moves-refused unexpected (t .place) ts))
 
     either : (rs : List ℕ) (b : Bool) (x : Step) → goes x ≡ so (stepWith statement (os ++ (t .place ∷ [])) t)
-        → goes (byJob rs b x (Stop (refusal unexpected (t .place))))
+        → goes (byJob rs b x (RefusedAt (refusal unexpected (t .place))))
         ≡ so (byJob rs b (stepWith statement (os ++ (t .place ∷ [])) t) (refusedAt unexpected (t .place)))
     either [] true x e = e
     either [] false x e = stops
@@ -146,7 +146,7 @@ module _ (s : List ℕ) where
     either (o ∷ rs) false x e = e
 
     goes-on : (i : ℕ) → Tokens s i (t ∷ ts) z
-        → goes (byJob os (isClass (t .class) JOB) (stepRead (readFrom 0 s statement tt i)) (Stop (refusal unexpected (t .place)))) ≡ so (move (on done os) t)
+        → goes (byJob os (isClass (t .class) JOB) (stepRead (readFrom 0 s statement tt i)) (RefusedAt (refusal unexpected (t .place)))) ≡ so (move (on done os) t)
     goes-on i d =
         either os (isClass (t .class) JOB) _ (any-goes (readFrom 0 s statement tt i) (rest-reads s d statement tt (os ++ (t .place ∷ []))))
         ∙ ap so (sym (rw (lt-ltb (length os) statements (omega arith)) (opening-is os (os ++ (t .place ∷ [])) t)))

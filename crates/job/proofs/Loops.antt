@@ -20,37 +20,37 @@ use Rattle.item.specs.declared.Item.{Item}
 use Rattle.item.proofs.Lines.{inside}
 use Rattle.item.proofs.Shows.{Shows, shows, no-token-numbers}
 use Rattle.item.proofs.Shows.Shows.{a-token, the-end, no-token}
-use Rattle.job.specs.Loop.{stop, stepOf, onStep, jobLoop}
+use Rattle.job.specs.Loop.{refuse, stepOf, onStep, jobLoop}
 use Rattle.job.specs.declared.Step.{Step}
-use Rattle.job.specs.declared.Step.the-variants.{Over, Stop, On}
+use Rattle.job.specs.declared.Step.the-variants.{Over, RefusedAt, On}
 
 over≢on : {n : ℕ} → Over ≡ On n → ⊥
 over≢on e = let z : _≡_ {A = ℕ} 0 1 = cc in omega arith
 
-stop≢on : {r : Refusal} {n : ℕ} → Stop r ≡ On n → ⊥
-stop≢on e = let z : _≡_ {A = ℕ} 0 1 = cc in omega arith
+refused≢on : {r : Refusal} {n : ℕ} → RefusedAt r ≡ On n → ⊥
+refused≢on e = let z : _≡_ {A = ℕ} 0 1 = cc in omega arith
 
 -- after 64 statements no statement is read
 full-stops : (s : List ℕ) (t : Item) (n : ℕ) → stepOf s statements t ≡ On n → ⊥
 unfolding stepOf
 full-stops s t n e = go (eqb (t .class) endNo) (ltb endNo (t .class)) e
   where
-    go : (a b : Bool) → cond a Over (cond b (stop (refusalNo (t .class)) t) (stop tooManyStatements t)) ≡ On n → ⊥
+    go : (a b : Bool) → cond a Over (cond b (refuse (refusalNo (t .class)) t) (refuse tooManyStatements t)) ≡ On n → ⊥
     go true b x = over≢on x
-    go false true x = stop≢on x
-    go false false x = stop≢on x
+    go false true x = refused≢on x
+    go false false x = refused≢on x
 
 ended-stops : (s : List ℕ) (k : ℕ) (t : Item) (n : ℕ) → t .class ≡ endNo → stepOf s k t ≡ On n → ⊥
 unfolding stepOf
 ended-stops s k t n c e = go (eqb k 0) (rw c at e)
   where
-    go : (a : Bool) → cond a (stop unexpected t) Over ≡ On n → ⊥
-    go true x = stop≢on x
+    go : (a : Bool) → cond a (refuse unexpected t) Over ≡ On n → ⊥
+    go true x = refused≢on x
     go false x = over≢on x
 
 no-token-stops : (s : List ℕ) (k : ℕ) (t : Item) (n : ℕ) → endNo < t .class → stepOf s k t ≡ On n → ⊥
 unfolding stepOf
-no-token-stops s k t n l e = stop≢on (rw (ne-eqb (t .class) endNo (λ c. omega arith), lt-ltb endNo (t .class) l) at e)
+no-token-stops s k t n l e = refused≢on (rw (ne-eqb (t .class) endNo (λ c. omega arith), lt-ltb endNo (t .class) l) at e)
 
 -- a statement is read where a token stands
 on-token : (s : List ℕ) (k at : ℕ) (t : Item) (n : ℕ) → stepOf s k t ≡ On n → (x : Next) → nextItem s at ≡ x → Shows t x → t .place < length s
@@ -71,8 +71,8 @@ module _ (s places : List ℕ) (k at : ℕ) (e : OffsetsRead) (inv : jobLoop s (
   pub all-read : r ≡ Over → done (take k places) ≡ e
   all-read p = rw p at turn
 
-  pub stopped : (f : Refusal) → r ≡ Stop f → refused (f .number) (f .place) ≡ e
-  stopped f p = rw p at turn
+  pub refused-there : (f : Refusal) → r ≡ RefusedAt f → refused (f .number) (f .place) ≡ e
+  refused-there f p = rw p at turn
 
   pub room : (n : ℕ) → r ≡ On n → k < statements
   room n p = go (ltb k statements) refl

@@ -17,32 +17,32 @@ use Rattle.statement.specs.Statement.{statementOf}
 use Rattle.statement.specs.declared.StatementRead.{StatementRead}
 use Rattle.statement.specs.declared.StatementRead.the-variants.{Is, Refused}
 use Rattle.job.specs.declared.Step.{Step}
-use Rattle.job.specs.declared.Step.the-variants.{Over, Stop, On}
-use Rattle.job.specs.declared.Found.{Found}
+use Rattle.job.specs.declared.Step.the-variants.{Over, RefusedAt, On}
+use Rattle.job.specs.declared.StatementsFound.{StatementsFound}
 
-abbrev pub stop : ℕ → Item → Step
-stop n t = Stop (refusal n (t .place))
+abbrev pub refuse : ℕ → Item → Step
+refuse n t = RefusedAt (refusal n (t .place))
 
 abbrev pub stepRead : StatementRead → Step
 stepRead (Is x next) = On next
-stepRead (Refused r) = Stop r
+stepRead (Refused r) = RefusedAt r
 
 -- "the first JOB and no other": a statement that begins with t, after k statements
 unfoldable pub stepInto : List ℕ → ℕ → Item → Step
 stepInto s k t =
     cond (eqb k 0)
-    (cond (eqb (t .class) (classNo JOB)) (stepRead (statementOf 0 s t)) (stop unexpected t))
-    (cond (eqb (t .class) (classNo JOB)) (stop unexpected t) (stepRead (statementOf 0 s t)))
+    (cond (eqb (t .class) (classNo JOB)) (stepRead (statementOf 0 s t)) (refuse unexpected t))
+    (cond (eqb (t .class) (classNo JOB)) (refuse unexpected t) (stepRead (statementOf 0 s t)))
 
 -- what stands after k statements: the file's end, no token, a token too many, or one more statement
 unfoldable pub stepOf : List ℕ → ℕ → Item → Step
 stepOf s k t =
-    cond (eqb (t .class) endNo) (cond (eqb k 0) (stop (refusalNo (t .class)) t) Over)
-    (cond (ltb endNo (t .class)) (stop (refusalNo (t .class)) t) (cond (eqb k statements) (stop tooManyStatements t) (stepInto s k t)))
+    cond (eqb (t .class) endNo) (cond (eqb k 0) (refuse (refusalNo (t .class)) t) Over)
+    (cond (ltb endNo (t .class)) (refuse (refusalNo (t .class)) t) (cond (eqb k statements) (refuse tooManyStatements t) (stepInto s k t)))
 
 abbrev pub onStep : Step → List ℕ → ℕ → (List ℕ → ℕ → OffsetsRead) → OffsetsRead
 onStep Over os place rest = done os
-onStep (Stop r) os place rest = refused (r .number) (r .place)
+onStep (RefusedAt r) os place rest = refused (r .number) (r .place)
 onStep (On next) os place rest = rest (os ++ (place ∷ [])) next
 
 -- the rest of a file from the place at on, after statements that begin at os; `left` bounds how many tokens are looked at between statements
@@ -52,5 +52,5 @@ jobLoop s (suc left) os at =
     onStep (stepOf s (length os) (itemAt 0 s at)) os (itemAt 0 s at .place) (jobLoop s left)
 
 -- what was found: the offsets of the statements, or the refusal
-abbrev pub foundOf : Found → OffsetsRead
+abbrev pub foundOf : StatementsFound → OffsetsRead
 foundOf f = cond (f .whole) (done (take (f .count) (f .places))) (refused (f .refusal .number) (f .refusal .place))

@@ -28,7 +28,7 @@ ghost use Rattle.counts.specs.Result.{counted};
 ghost use Rattle.token.specs.Token.{isTextAt};
 ghost use Rattle.job.specs.Job.{readJob, filled, paperJob};
 ghost use Rattle.job.specs.Statement.{onRead, statementIn, readStatement, paperStatementAt, textAt};
-ghost use Rattle.job.specs.Loop.{stop, stepRead, stepInto, stepOf, jobLoop, foundOf};
+ghost use Rattle.job.specs.Loop.{refuse, stepRead, stepInto, stepOf, jobLoop, foundOf};
 
 // A statement, its own offset and the place after its ;
 pub struct StatementAt {
@@ -51,23 +51,23 @@ pub enum JobAnswer {
 // What a token between statements leads to: the file is over, it is refused, or a statement ends before a place.
 pub enum Step {
     Over,
-    Stop(Refusal),
+    RefusedAt(Refusal),
     On(usize),
 }
 
 // The offsets of a file's statements, or the refusal. They are kept here until the whole file is judged, so that the file is read once and a
 // refusal changes no entry of the caller's table.
-pub struct Found {
+pub struct StatementsFound {
     pub places: [u32; 64],
     pub count: usize,
     pub whole: bool,
     pub refusal: Refusal,
 }
 
-fn stop(number: u32, t: Item) -> Step
-    ensures { λ r. ⌜ r ≡ stop number t ⌝ }
+fn refuse(number: u32, t: Item) -> Step
+    ensures { λ r. ⌜ r ≡ refuse number t ⌝ }
 {
-    Step::Stop(Refusal {
+    Step::RefusedAt(Refusal {
         number,
         place: t.place,
     })
@@ -78,7 +78,7 @@ fn step_read(r: StatementRead) -> Step
 {
     match r {
         StatementRead::Is(_, next) => Step::On(next),
-        StatementRead::Refused(refusal) => Step::Stop(refusal),
+        StatementRead::Refused(refusal) => Step::RefusedAt(refusal),
     }
 }
 
@@ -91,10 +91,10 @@ fn step_into(file: &[u8], k: usize, t: Item) -> Step
         if t.class == JOB {
             return step_read(statement_of(file, 0, t));
         }
-        return stop(UNEXPECTED, t);
+        return refuse(UNEXPECTED, t);
     }
     if t.class == JOB {
-        return stop(UNEXPECTED, t);
+        return refuse(UNEXPECTED, t);
     }
     step_read(statement_of(file, 0, t))
 }
@@ -106,21 +106,21 @@ fn step_of(file: &[u8], k: usize, t: Item) -> Step
 {
     if t.class == END {
         if k == 0 {
-            return stop(refusal_number(t.class), t);
+            return refuse(refusal_number(t.class), t);
         }
         return Step::Over;
     }
     if END < t.class {
-        return stop(refusal_number(t.class), t);
+        return refuse(refusal_number(t.class), t);
     }
     if k == STATEMENTS as usize {
-        return stop(TOO_MANY_STATEMENTS, t);
+        return refuse(TOO_MANY_STATEMENTS, t);
     }
     step_into(file, k, t)
 }
 
 // The statements of a file, from the left.
-fn statements_of(file: &[u8]) -> Found
+fn statements_of(file: &[u8]) -> StatementsFound
     requires { ⌜ length (now file) ≤ fileBytes ⌝ }
     ensures { λ r. ⌜ (foundOf r ≡ jobLoop (now (file .entry)) (statements + 1) [] 0) × (r .count ≤ length (r .places)) ⌝ }
 {
@@ -131,7 +131,7 @@ fn statements_of(file: &[u8]) -> Found
         let t = next_item(file, 0, at);
         match step_of(file, k, t) {
             Step::Over => {
-                return Found {
+                return StatementsFound {
                     places,
                     count: k,
                     whole: true,
@@ -141,8 +141,8 @@ fn statements_of(file: &[u8]) -> Found
                     },
                 };
             }
-            Step::Stop(refusal) => {
-                return Found {
+            Step::RefusedAt(refusal) => {
+                return StatementsFound {
                     places,
                     count: k,
                     whole: false,

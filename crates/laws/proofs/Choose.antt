@@ -20,6 +20,9 @@ pub and-right : (a b : Bool) → (a && b) ≡ true → b ≡ true
 and-right true b h = h
 and-right false b h = absurd (false≢true h)
 
+pub halves : (a b : Bool) → (a && b) ≡ true → (a ≡ true) × (b ≡ true)
+halves a b h = (and-left a b h, and-right a b h)
+
 pub and-both : {a b : Bool} → a ≡ true → b ≡ true → (a && b) ≡ true
 and-both p q = rw (p, q)
 

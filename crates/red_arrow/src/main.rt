@@ -11,7 +11,7 @@ use session_name::Kind;
 use session_table::Answered;
 use session_table::Collected;
 use session_table::Made;
-use session_table::Placed;
+use session_table::SessionPlaced;
 use session_table::TakenUp;
 use table_layout::Table;
 
@@ -55,12 +55,12 @@ fn place(who: &[u8], table: &mut [u8], program: u32, count: u32) {
     print_number(b" places a request, commands: ", count as u64);
     write_all(STDOUT_FILENO, b": ");
     match session_table::place(table, program, count) {
-        Placed::At(s, t) => {
+        SessionPlaced::At(s, t) => {
             print_file(s, Kind::Request);
             print_number(b", ticket ", t.0 as u64);
             write_all(STDOUT_FILENO, b"\n");
         }
-        Placed::Refused(r) => print_refusal(r.number),
+        SessionPlaced::Refused(r) => print_refusal(r.number),
     }
 }
 

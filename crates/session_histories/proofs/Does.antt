@@ -9,12 +9,14 @@ use native.Mathlib.Omega.{arith}
 use borrow.Author.Tests.{eq-eqb, lt-ltb, le-leb}
 use lib.Dec.{eqb}
 use lib.ListN.{length}
+use Rattle.counts.proofs.Results.{done-same}
+use Rattle.laws.proofs.Choose.{halves}
 use Rattle.counts.specs.Limits.{commands, programs, sessions, ticketMost}
 use Rattle.counts.specs.Result.{Result, refused, done, counted}
 use Rattle.field.proofs.Put.{put-eq}
 use Rattle.field.specs.Part.{put}
 use Rattle.sessions.proofs.Did.{make, stepTable, did}
-use Rattle.sessions.proofs.Laws.{halves, in-range, done-same, if-cond}
+use Rattle.sessions.proofs.Laws.{in-range, if-cond}
 use Rattle.sessions.proofs.Owing.{answer-cond}
 use Rattle.sessions.proofs.Parts.{parts-sound}
 use Rattle.sessions.proofs.Runs.{Alike, SameRun, same-run}

@@ -6,12 +6,12 @@ use mathlib.Core.List.{List}
 use native.Mathlib.Omega.{arith}
 use borrow.Author.Tests.{leb-true}
 use lib.Dec.{leb}
+use Rattle.counts.proofs.Results.{refused-not-done}
 use Rattle.counts.specs.Limits.{classMost, codeMost}
 use Rattle.counts.specs.Refusals.{notReal, notARecord, notTheOne, unsound, refusal}
 use Rattle.counts.specs.Result.{refused, done}
 use Rattle.counts.specs.declared.Refusal.{Refusal}
 use Rattle.laws.proofs.Choose.{and-left}
-use Rattle.sessions.proofs.Laws.{refused≢done}
 use Rattle.sessions.specs.Find.{Found, none, at}
 use Rattle.record.specs.Record.{isOutcome}
 use Rattle.sessions.specs.Records.{isDated}
@@ -132,7 +132,7 @@ module _ (b : List ℕ) (t c : ℕ) (a : Answer) where
       go (handOf (number b handAt)) refl (q .1) (q .0)
     where
       go : (f : Found) → handOf (number b handAt) ≡ f → only (answerHand (abs b) t c a f .0) ≡ done tt → soundBytes b ≡ true → Answerable
-      go none e d x = absurd (refused≢done d)
+      go none e d x = absurd (refused-not-done d)
       go (at s) e d x =
           let n = passed-both (names (slotOf b s) t c) _ notTheOne 0 (abs b) d in
           let k = passed-both (isDated a) _ notReal 0 (abs b) (n .1) in

@@ -7,12 +7,13 @@ use native.Mathlib.Omega.{arith}
 use lib.Dec.{leb}
 use lib.ListN.{length}
 use borrow.Author.Tests.{le-leb, lt-leb, leb-true}
+use Rattle.counts.proofs.Results.{refused-not-done}
 use Rattle.counts.specs.Limits.{commands, programs}
 use Rattle.counts.specs.Refusals.{notTheOne, outOfRange, tooLittleRoom, unsound, refusal}
 use Rattle.counts.specs.Result.{refused, done}
 use Rattle.counts.specs.declared.Refusal.{Refusal}
 use Rattle.field.specs.Part.{put, Wrote}
-use Rattle.sessions.proofs.Laws.{must-find, in-range, is-ready, refused≢done}
+use Rattle.sessions.proofs.Laws.{must-find, in-range, is-ready}
 use Rattle.sessions.proofs.Loops.{find-at, all-real}
 use Rattle.sessions.specs.Find.{none, at, orNone, all}
 use Rattle.sessions.specs.Table.{within, isReady, reply, collect, collectFrom}
@@ -88,7 +89,7 @@ module _ (b : List ℕ) (p t room : ℕ) where
   collectable ok =
       let q = passed (soundBytes b) _ unsound 0 ok in
       let r = passed-both (within 1 p programs) (collectFrom (abs b) room (readyFound b p t)) outOfRange 0 (abs b) (q .1) in
-      let f = must-find (number b maxAt) (λ s. isReady p t (slotOf b s)) (λ f. only (collectFrom (abs b) room f .0) ≡ done tt) refused≢done (r .1) in
+      let f = must-find (number b maxAt) (λ s. isReady p t (slotOf b s)) (λ f. only (collectFrom (abs b) room f .0) ≡ done tt) refused-not-done (r .1) in
       record {
         sound = q .0;
         range = r .0;

@@ -6,10 +6,11 @@ use mathlib.Core.List.{List}
 use native.Mathlib.Omega.{arith}
 use lib.Dec.{ltb}
 use borrow.Author.Tests.{lt-ltb, le-ltb, ltb-true}
+use Rattle.counts.proofs.Results.{refused-not-done}
 use Rattle.counts.specs.Limits.{commands, programs, sessions, ticketMost}
 use Rattle.counts.specs.Refusals.{allTaken, outOfRange, noTicketLeft, unsound, refusal}
 use Rattle.counts.specs.Result.{done}
-use Rattle.sessions.proofs.Laws.{must-find, refused≢done}
+use Rattle.sessions.proofs.Laws.{must-find}
 use Rattle.sessions.proofs.Loops.{find-at}
 use Rattle.sessions.specs.Find.{none, at, orNone}
 use Rattle.sessions.specs.Table.{within, isOpen, place, placeIn}
@@ -24,7 +25,7 @@ pub use Rattle.table_search.specs.Search.{openIn}
 use Rattle.session_table.proofs.Verdicts.{passed, passed-both, is-refused, keeps-bytes}
 use Rattle.counts.specs.declared.Refusal.{Refusal}
 use Rattle.session_table.specs.Paper.{paperPlaced}
-use Rattle.session_table.specs.declared.Placed.the-variants.{Refused as NotPlaced}
+use Rattle.session_table.specs.declared.SessionPlaced.the-variants.{Refused as NotPlaced}
 
 pub place-below : (b : List ℕ) → soundBytes b ≡ true → (s : ℕ) → openIn b ≡ at s → s < sessions
 place-below b sound s e = omega (arith, find-at (λ i. isOpen (slotOf b i)) (number b maxAt) e .0, sound-limited b sound .limit)
@@ -79,7 +80,7 @@ module _ (b : List ℕ) (p n : ℕ) where
   placeable ok =
       let q = passed (soundBytes b) _ unsound 0 ok in
       let r = passed-both ranges (placeIn (abs b) p n (openIn b)) outOfRange 0 (abs b) (q .1) in
-      let f = must-find (number b maxAt) (λ s. isOpen (slotOf b s)) (λ f. only (placeIn (abs b) p n f .0) ≡ done tt) refused≢done (r .1) in
+      let f = must-find (number b maxAt) (λ s. isOpen (slotOf b s)) (λ f. only (placeIn (abs b) p n f .0) ≡ done tt) refused-not-done (r .1) in
       record {
         sound = q .0;
         range = r .0;

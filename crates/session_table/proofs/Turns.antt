@@ -4,10 +4,10 @@ use mathlib.Core.Path.{_≡_, refl, _∙_, ap, sym, subst}
 use mathlib.Core.Bool.{true, false}
 use mathlib.Core.List.{List}
 use borrow.Author.Tests.{eq-eqb, ne-eqb}
+use Rattle.counts.proofs.Results.{refused-not-done}
 use Rattle.counts.specs.Refusals.{nothingUnanswered, unsound, refusal}
 use Rattle.counts.specs.Result.{done}
 use Rattle.counts.specs.declared.Refusal.{Refusal}
-use Rattle.sessions.proofs.Laws.{refused≢done}
 use Rattle.sessions.proofs.Loops.{find-at}
 use Rattle.sessions.specs.Find.{Found, none, at, orNone}
 use Rattle.sessions.specs.Table.{isWaiting, lowest, turn, givenFrom, takeNext, takeHand, takeUp}
@@ -115,7 +115,7 @@ module _ (b : List ℕ) where
           (passed (soundBytes b) _ unsound 0 ok .1))
         where
           go : (f : Found) → nextIn b ≡ f → only (takeNext (abs b) f .0) ≡ done tt → nextIn b ≡ at i
-          go none q d = absurd (refused≢done d)
+          go none q d = absurd (refused-not-done d)
           go (at k) q d = q ∙ ap at (sym (found ∙ ap (λ f. orNone f (number b maxAt)) q))
 
       module _ (s : ℕ) (turned-to : s ≡ turn (abs b) i) where

@@ -7,8 +7,8 @@ use Rattle.session_table.specs.declared.Collected.{Collected}
 use Rattle.session_table.specs.declared.Collected.the-variants.{Written, Refused as NotCollected}
 use Rattle.session_table.specs.declared.Made.{Made}
 use Rattle.session_table.specs.declared.Made.the-variants.{Fresh, Refused as NotMade}
-use Rattle.session_table.specs.declared.Placed.{Placed}
-use Rattle.session_table.specs.declared.Placed.the-variants.{At, Refused as NotPlaced}
+use Rattle.session_table.specs.declared.SessionPlaced.{SessionPlaced}
+use Rattle.session_table.specs.declared.SessionPlaced.the-variants.{At, Refused as NotPlaced}
 use Rattle.session_table.specs.declared.TakenUp.{TakenUp}
 use Rattle.session_table.specs.declared.TakenUp.the-variants.{Given, Refused as NotTakenUp}
 
@@ -18,7 +18,7 @@ paperMade Fresh = done tt
 paperMade (NotMade f) = refusedAs f
 
 -- session number and ticket
-unfoldable pub paperPlaced : Placed → Result (ℕ × ℕ)
+unfoldable pub paperPlaced : SessionPlaced → Result (ℕ × ℕ)
 paperPlaced (At s t) = done (s .0, t .0)
 paperPlaced (NotPlaced f) = refusedAs f
 

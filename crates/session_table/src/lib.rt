@@ -52,7 +52,7 @@ pub enum Made {
     Refused(Refusal),
 }
 
-pub enum Placed {
+pub enum SessionPlaced {
     At(SessionNumber, Ticket),
     Refused(Refusal),
 }
@@ -118,34 +118,34 @@ fn is_placeable(program: u32, count: u32) -> bool
 }
 
 // The lowest open number is taken, or none is open, or no ticket is left.
-fn place_lowest(b: &mut [u8], program: u32, count: u32) -> Placed
+fn place_lowest(b: &mut [u8], program: u32, count: u32) -> SessionPlaced
     requires { ⌜ (soundBytes (now b) ≡ true) × ((within 1 program programs && within 1 count commands) ≡ true) ⌝ }
     ensures { λ r. ⌜ (paperPlaced r ≡ placing (now (b .entry)) program count) × (now (b .exit) ≡ placedBytes (now (b .entry)) program count) ⌝ }
 {
     let SessionFound::At(s) = lowest_open(b) else {
-        return Placed::Refused(Refusal::plain(ALL_TAKEN));
+        return SessionPlaced::Refused(Refusal::plain(ALL_TAKEN));
     };
     let last = get_table(b).last;
     if Table::TICKET_MOST <= last.0 {
-        return Placed::Refused(Refusal::plain(NO_TICKET_LEFT));
+        return SessionPlaced::Refused(Refusal::plain(NO_TICKET_LEFT));
     }
     let ticket = Ticket(last.0 + 1);
     put_head(b, s, Head::placed(program, count, ticket));
     put_last(b, ticket);
-    Placed::At(s, ticket)
+    SessionPlaced::At(s, ticket)
 }
 
 // Takes the lowest open number for a program's commands.
-pub fn place(b: &mut [u8], program: u32, count: u32) -> Placed
+pub fn place(b: &mut [u8], program: u32, count: u32) -> SessionPlaced
     ensures { λ r. ⌜ (paperPlaced r ≡ placing (now (b .entry)) program count) × (now (b .exit) ≡ placedBytes (now (b .entry)) program count) ⌝ }
 {
     if is_sound(b) {
         if is_placeable(program, count) {
             return place_lowest(b, program, count);
         }
-        return Placed::Refused(Refusal::plain(OUT_OF_RANGE));
+        return SessionPlaced::Refused(Refusal::plain(OUT_OF_RANGE));
     }
-    Placed::Refused(Refusal::plain(UNSOUND))
+    SessionPlaced::Refused(Refusal::plain(UNSOUND))
 }
 
 // The session's lowest unanswered command.

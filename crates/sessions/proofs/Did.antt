@@ -6,6 +6,7 @@ use mathlib.Core.List.{List}
 use borrow.Author.Tests.{not-true, leb-true, ltb-true, ltb-false}
 use lib.Dec.{leb, ltb}
 use lib.ListN.{length}
+use Rattle.laws.proofs.Choose.{halves}
 use Rattle.counts.specs.Limits.{commands, programs, sessions, ticketMost}
 use Rattle.counts.specs.Refusals.{notReal, notARecord, tooLittleRoom, allTaken, notTheOne, outOfRange, noTicketLeft, unsound, nothingUnanswered}
 use Rattle.sessions.specs.Find.{Found, none, at}
@@ -17,7 +18,7 @@ use Rattle.sessions.specs.Records.{isDated}
 use Rattle.sessions.specs.Sound.{inRangeAndReal}
 use Rattle.counts.specs.Result.{Result, refused, done}
 use Rattle.sessions.specs.Table.{State, fresh, within, isOpen, afterPlace, placeIn, place, isWaiting, lowest, turn, givenFrom, afterTakeUp, takeNext, takeHand, takeUp, names, afterAnswer, answerHand, answer, reply, afterCollect, collectFrom, collect, isReady}
-use Rattle.sessions.proofs.Laws.{Search, miss, hit, search-find, halves, if-cond, in-range, are-named, is-ready}
+use Rattle.sessions.proofs.Laws.{Search, miss, hit, search-find, if-cond, in-range, are-named, is-ready}
 
 unfoldable pub make : State → ℕ → Result (Unit {0}) × State
 make σ max = cond (within 1 max sessions) (done tt, fresh max) (refused outOfRange 0, σ)

@@ -9,6 +9,7 @@ use native.Mathlib.Omega.{arith}
 use borrow.Author.Tests.{eq-eqb, ne-eqb, eqb-true, eqb-false, leb-true, not-true}
 use lib.Dec.{eqb, leb}
 use lib.ListN.{length}
+use Rattle.laws.proofs.Choose.{halves}
 use Rattle.sessions.specs.Find.{Found, none, at, orElse, find, all, replaced}
 use Rattle.sessions.specs.declared.Answer.{Answer}
 use Rattle.counts.specs.Result.{refused, done}
@@ -62,11 +63,6 @@ module _ {A : Type 0} (f : ℕ → A) (s : ℕ) (x : A) where
   pub replaced-all : (P : ℕ → A → Type 0) → P s x → ((i : ℕ) → (i ≡ s → ⊥) → P i (f i)) → (i : ℕ) → P i (replaced f s x i)
   replaced-all P h g i = ⊎-elim (λ (e : i ≡ s). rw e (rw replaced-same h)) (λ (n : i ≡ s → ⊥). rw (replaced-other n) (g i n)) (either i s)
 
--- the two halves of a test that holds
-pub halves : (a b : Bool) → (a && b) ≡ true → (a ≡ true) × (b ≡ true)
-halves true b h = (refl, h)
-halves false b h = absurd (false≢true h)
-
 pub or-cases : (a b : Bool) → (a || b) ≡ true → (a ≡ true) ⊎ (b ≡ true)
 or-cases true b h = inl refl
 or-cases false b h = inr h
@@ -101,12 +97,6 @@ is-ready p t x e =
     let h = halves (eqb (x .program) p && eqb (x .ticket) t) (isClosed x) e in
     let k = halves (eqb (x .program) p) (eqb (x .ticket) t) (h .0) in
     (eqb-true _ _ (k .0), eqb-true _ _ (k .1), eqb-true _ _ (halves (x .taken) (eqb (length (x .answers)) (x .count)) (h .1) .1))
-
-pub refused≢done : {A : Type 0} {k i : ℕ} {x : A} → refused k i ≡ done x → ⊥
-refused≢done e = let z : _≡_ {A = ℕ} 0 1 = cc in omega arith
-
-pub done-same : {A : Type 0} {x y : A} → done x ≡ done y → x ≡ y
-done-same e = cc
 
 pub head-same : {A : Type 0} {x y : A} {l m : List A} → x ∷ l ≡ y ∷ m → x ≡ y
 head-same e = cc

@@ -8,11 +8,12 @@ use native.Mathlib.Omega.{arith}
 use borrow.Author.Tests.{ne-eqb, leb-true, le-leb, ltb-true, lt-ltb}
 use lib.Dec.{leb, ltb}
 use lib.ListN.{length}
+use Rattle.laws.proofs.Choose.{halves}
 use Rattle.counts.specs.Limits.{commands, programs, sessions, ticketMost}
 use Rattle.sessions.specs.Find.{Found, none, at, all}
 use Rattle.sessions.specs.Sound.{maxInRange, markBelow, inRange, headSound, differs, isNew, allReal, slotSound, handSound, sound}
 use Rattle.sessions.specs.Table.{Session, noSession, State, within, isOpen, isWaiting}
-use Rattle.sessions.proofs.Laws.{halves, in-range, or-cases, differ-true, all-at, all-make}
+use Rattle.sessions.proofs.Laws.{in-range, or-cases, differ-true, all-at, all-make}
 
 -- what a sound table says of a session
 pub record SessionSound (max last s : ℕ) (x : Session) : Type 0 where

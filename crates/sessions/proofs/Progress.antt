@@ -8,11 +8,12 @@ use native.Mathlib.Nat.{eq-zero-or-pos}
 use native.Mathlib.Omega.{arith}
 use borrow.Author.Tests.{eq-eqb, lt-ltb, le-ltb}
 use lib.ListN.{length}
+use Rattle.laws.proofs.Choose.{halves}
 use Rattle.counts.specs.Result.{Result, done}
 use Rattle.record.specs.Record.{isOutcome}
 use Rattle.sessions.proofs.Agrees.{Agrees}
 use Rattle.sessions.proofs.Answers.{closed-or-waits}
-use Rattle.sessions.proofs.Laws.{Search, miss, search-find, halves}
+use Rattle.sessions.proofs.Laws.{Search, miss, search-find}
 use Rattle.sessions.proofs.Did.{stepTable}
 use Rattle.sessions.proofs.SoundKept.{is-session}
 use Rattle.sessions.proofs.Told.{told-by}

@@ -5,9 +5,10 @@ use mathlib.Core.Path.{_≡_, refl, _∙_, sym, subst, ap₂}
 use mathlib.Core.Bool.{true, false, not}
 use mathlib.Core.List.{List, [], _∷_, _++_}
 use borrow.Author.Tests.{not-true}
+use Rattle.laws.proofs.Choose.{halves}
 use Rattle.sessions.specs.History.{Call, toPlace, toTakeUp, toAnswer, toCollect, Event}
 use Rattle.sessions.specs.Runs.{StepOf, reached, historyOf, makesAnew, neverAnew, Refuses}
-use Rattle.sessions.proofs.Laws.{halves, nil≢mid, head-same, tail-same}
+use Rattle.sessions.proofs.Laws.{nil≢mid, head-same, tail-same}
 
 -- the last of calls that make nothing anew, and those before it
 anew-parts : (c : Call) (cs : List Call) → neverAnew (c ∷ cs) ≡ true → (makesAnew c ≡ false) × (neverAnew cs ≡ true)

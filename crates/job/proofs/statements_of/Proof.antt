@@ -7,7 +7,7 @@ use lib.ListN.{length, take, length-set}
 use borrow.Author.Needs.{needs}
 use Rattle.counts.specs.Limits.{statements}
 use Rattle.job.specs.Loop.{jobLoop}
-use Rattle.job.proofs.Loops.{all-read, stopped, room, in-file, again}
+use Rattle.job.proofs.Loops.{all-read, refused-there, room, in-file, again}
 use Rattle.job.proofs.statements_of.Statement.{statement}
 use Rattle.job.proofs.statements_of.Tie as tie
 
@@ -43,7 +43,7 @@ enum-known-refusal c = search needs
 
 returns-2 : tie.Need-returns-2 Inv-loop μ-loop
 returns-2 c = (
-  stopped _ _ _ _ _ (c .before .before .before .before .before .loop .inv .0) (c .before .before .before .before .before .loop .inv .1)
+  refused-there _ _ _ _ _ (c .before .before .before .before .before .loop .inv .0) (c .before .before .before .before .before .loop .inv .1)
       (c .before .before .before .before .before .loop .inv .2) _ (c .before .before .before .before .next-item .ensures .is) _
       (c .before .before .before .step-of .ensures) _ (c .before .refusal .given .1),
   omega arith,

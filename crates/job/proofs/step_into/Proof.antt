@@ -15,15 +15,15 @@ returns : tie.Need-returns
 unfolding stepInto
 returns c = rw (← c .before .statement-of .ensures) (search choose depth 9)
 
-stop-requires : tie.Need-stop-requires
-stop-requires c κs = search needs
+refuse-requires : tie.Need-refuse-requires
+refuse-requires c κs = search needs
 
 returns-2 : tie.Need-returns-2
 unfolding stepInto
 returns-2 c = search choose depth 9
 
-stop-requires-2 : tie.Need-stop-requires-2
-stop-requires-2 c κs = search needs
+refuse-requires-2 : tie.Need-refuse-requires-2
+refuse-requires-2 c κs = search needs
 
 returns-3 : tie.Need-returns-3
 unfolding stepInto
@@ -46,9 +46,9 @@ step-into-spec =
     statement-of-requires
     step-read-requires
     returns
-    stop-requires
+    refuse-requires
     returns-2
-    stop-requires-2
+    refuse-requires-2
     returns-3
     statement-of-requires-2
     step-read-requires-2
