@@ -120,10 +120,8 @@ pub record Demand1 : Type 0 where
   -- "On success, places beyond those written stay.": a name, a record, a reply ("all records in order") stands at the start of the output, the offsets at
   -- the start of their table
   pub offsets-written : (file offsets os : List ℕ) → let x = readJob file (length offsets) in x ≡ done os → filled x offsets ≡ put offsets 0 os
-  pub name-written : (max n k : ℕ) (kind : Kind) (out : List ℕ) → name.written max n out ≡ done k
-      → name.writtenBytes max n kind out ≡ put out 0 (name.nameOf n kind)
-  pub record-written : (c : Content) (out : List ℕ) (k : ℕ) → writing.written commands c out ≡ done k
-      → writing.writtenBytes commands c out ≡ put out 0 (recordBytes c)
+  pub name-written : (max n k : ℕ) (kind : Kind) (out : List ℕ) → name.written max n out ≡ done k → name.writtenBytes max n kind out ≡ put out 0 (name.nameOf n kind)
+  pub record-written : (c : Content) (out : List ℕ) (k : ℕ) → writing.written commands c out ≡ done k → writing.writtenBytes commands c out ≡ put out 0 (recordBytes c)
   pub reply-written : (b : List ℕ) (p t : ℕ) (out reply : List ℕ) → collecting b p t (length out) ≡ done reply → collectedOut b p t out ≡ put out 0 reply
   -- "Answering changes one slot's entry and the in-hand mark, nothing else.": every other byte stays, but for the slot's count of answers
   pub answer-changes : (b : List ℕ) (t c : ℕ) (a : Answer) (i : ℕ) → let s = inHand b in
