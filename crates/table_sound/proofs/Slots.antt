@@ -4,15 +4,16 @@ use mathlib.Core.Path.{_≡_, refl, _∙_, ap, sym}
 use mathlib.Core.Bool.{Bool, true, false, cond, _&&_, _||_, not, and-false}
 use mathlib.Core.Logic.{⊎-elim}
 use mathlib.Core.List.{List}
-use native.Mathlib.Nat.{eq-or-lt-of-le}
+use native.Mathlib.Nat.{eq-zero-or-pos, eq-or-lt-of-le}
 use native.Mathlib.Omega.{arith}
 use lib.Dec.{eqb, leb, ltb}
 use lib.ListN.{length, getD, set, length-set}
 use lib.Seq.{getD-set-same}
 use borrow.Author.Needs.{read-below}
-use borrow.Author.Tests.{eq-eqb, ne-eqb}
+use borrow.Author.Tests.{eq-eqb, ne-eqb, lt-ltb, le-ltb, ltb-true, ltb-false}
 use Rattle.counts.specs.Limits.{commands, programs, sessions, ticketMost}
-use Rattle.sessions.proofs.Loops.{all-same, all-real}
+use Rattle.sessions.proofs.Laws.{either}
+use Rattle.sessions.proofs.Loops.{all-same, all-real, all-fails, all-end}
 use Rattle.sessions.proofs.Parts.{of-head}
 use Rattle.sessions.specs.Find.{none, at, all}
 use Rattle.sessions.specs.Sound.{sound, maxInRange, markBelow, inRange, headSound, differs, isNew, inRangeAndReal, allReal, slotSound, handSound}
@@ -22,7 +23,7 @@ use Rattle.slot.specs.Fields.{headOf, entryOf, sessionOf, told, slotOf, Tells}
 use Rattle.slot.specs.declared.Head.{Head}
 use Rattle.table_layout.specs.Layout.{tableBytes, tableOf}
 use Rattle.table_layout.specs.declared.Table.{Table}
-use Rattle.table_sound.specs.Bytes.{handOf, abs, soundBytes, Seen}
+use Rattle.table_sound.specs.Bytes.{handOf, abs, soundBytes, Seen, handKnown}
 
 pub head-is : (max last s : ℕ) (h : Head) → (h .taken ≡ 0 → ⊥)
     → Tells h (headSound max last s)
@@ -133,21 +134,59 @@ module _ (n : ℕ) where
   unfolding handOf
   hand-full k = rw (ne-eqb n 0 k)
 
+-- what is known of it, number after number
 module _ (b : List ℕ) (n : ℕ) where
-  pub hand-none : n ≡ 0 → true ≡ handSound (abs b) (handOf n)
+  pub hand-start : eqb n 0 ≡ handKnown b n 0
+  unfolding handSound handOf
+  hand-start =
+      ⊎-elim (λ (z : n ≡ 0). rw z) (λ (l : 1 ≤ n). rw (ne-eqb n 0 (λ z. omega arith), lt-ltb 0 n (omega arith))) (eq-zero-or-pos n)
+
+  -- the session of the next number is in hand, or nothing new is known
+  is-known : (s : ℕ) → s + 1 ≡ n → isWaiting (slotOf b s) ≡ handKnown b n (s + 1)
   unfolding handSound
-  hand-none e = rw (hand-empty n e)
+  is-known s e =
+      let last : n - 1 ≡ s = omega arith in
+      rw (le-ltb (s + 1) n (omega arith), hand-full n (λ z. omega arith), last)
 
-  module _ (k : n ≡ 0 → ⊥) where
-    pub hand-is : n - 1 < sessions → (h : Head) → h ≡ headOf b (n - 1) → (r : Bool) → Tells h isWaiting r → r ≡ handSound (abs b) (handOf n)
-    unfolding handSound
-    hand-is l h q r said = said (entryOf b (n - 1)) ∙ rw (hand-full n k, slot-told b (n - 1) l, q)
+  known-still : (s : ℕ) → (s + 1 ≡ n → ⊥) → handKnown b n s ≡ handKnown b n (s + 1)
+  known-still s k = ap (λ (d : Bool). cond d false (handSound (abs b) (handOf n))) (go (ltb s n) refl)
+    where
+      go : (d : Bool) → ltb s n ≡ d → ltb s n ≡ ltb (s + 1) n
+      go true e =
+          ⊎-elim (λ (z : s + 1 ≡ n). absurd (k z)) (λ (l : s + 1 < n). e ∙ sym (lt-ltb (s + 1) n l))
+          (eq-or-lt-of-le {n = s + 1} {m = n} (omega (arith, ltb-true s n e)))
+      go false e = e ∙ sym (le-ltb (s + 1) n (omega (arith, ltb-false s n e)))
 
-    pub hand-beyond : sessions ≤ n - 1 → false ≡ handSound (abs b) (handOf n)
-    unfolding handSound isWaiting
-    hand-beyond l = rw (hand-full n k, slot-beyond b (n - 1) l)
+  pub hand-more : (s : ℕ) → s < sessions → (h : Head) → h ≡ headOf b s → (known r : Bool)
+      → Tells h (λ x. cond (eqb (s + 1) n) (isWaiting x) known) r → known ≡ handKnown b n s → r ≡ handKnown b n (s + 1)
+  hand-more s below h q known r said before =
+      said (entryOf b s)
+      ∙ ap (λ (x : Session). cond (eqb (s + 1) n) (isWaiting x) known) (ap (λ x. told x (entryOf b s)) q ∙ sym (slot-told b s below))
+      ∙ ⊎-elim (λ (e : s + 1 ≡ n). rw (eq-eqb (s + 1) n e) (is-known s e)) (λ (k : s + 1 ≡ n → ⊥). rw (ne-eqb (s + 1) n k) (before ∙ known-still s k))
+      (either (s + 1) n)
 
--- ---- the four ways through the test of the whole
+  hand-end : (s : ℕ) → sessions ≤ s → (known : Bool) → known ≡ handKnown b n s → known ≡ handSound (abs b) (handOf n)
+  unfolding handSound isWaiting
+  hand-end s l known e = e ∙ go (ltb s n) refl
+    where
+      go : (d : Bool) → ltb s n ≡ d → cond d false (handSound (abs b) (handOf n)) ≡ handSound (abs b) (handOf n)
+      go true f = let k = ltb-true s n f in rw (hand-full n (λ z. omega arith), slot-beyond b (n - 1) (omega arith))
+      go false f = refl
+
+-- ---- the two ends of the pass over the sessions
+
+module _ (b : List ℕ) (n : ℕ) where
+  abbrev sounds : ℕ → Bool
+  sounds s = slotSound (abs b) s (slotOf b s)
+
+  pub pass-stops : (s : ℕ) → s < sessions → (r : Bool) → r ≡ sounds s → r ≡ false → false ≡ (all sessions sounds && handSound (abs b) (handOf n))
+  pass-stops s l r q e = rw (all-fails sounds sessions {i = s} l (sym q ∙ e))
+
+  pub pass-ends : (s : ℕ) → all s sounds ≡ true → s ≡ sessions → (known : Bool) → known ≡ handKnown b n s
+      → known ≡ (all sessions sounds && handSound (abs b) (handOf n))
+  pass-ends s a e known k = rw (all-end sounds a e) (hand-end b n s (omega arith) known k)
+
+-- ---- the ways through the test of the whole
 
 module _ (b : List ℕ) where
   pub sound-no-size : (length b ≡ tableBytes → ⊥) → false ≡ soundBytes b
@@ -163,9 +202,6 @@ module _ (b : List ℕ) where
     pub sound-no-limits : limits-ok ≡ false → false ≡ soundBytes b
     sound-no-limits e = rw (sound-is, e)
 
-    module _ (slots-ok : Bool) (slots-said : slots-ok ≡ all sessions (λ s. slotSound (abs b) s (slotOf b s))) where
-      pub sound-no-slots : slots-ok ≡ false → false ≡ soundBytes b
-      sound-no-slots e = rw (sound-is, ← slots-said, e, and-false)
-
-      pub sound-hand : limits-ok ≡ true → slots-ok ≡ true → handSound (abs b) (handOf (t .hand)) ≡ soundBytes b
-      sound-hand d e = rw (sound-is, ← slots-said, d, e)
+    pub sound-sessions : limits-ok ≡ true → (r : Bool)
+        → r ≡ (all sessions (λ s. slotSound (abs b) s (slotOf b s)) && handSound (abs b) (handOf (t .hand))) → r ≡ soundBytes b
+    sound-sessions d r e = rw (sound-is, d) e

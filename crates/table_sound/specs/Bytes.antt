@@ -1,12 +1,12 @@
 -- What lent bytes say: the session table without bytes that they hold, and when they are sound.
 use Prim.Native.Nat.{ℕ, _-_, _≤_, _<_}
 use mathlib.Core.Path.{_≡_}
-use mathlib.Core.Bool.{Bool, _&&_, cond}
+use mathlib.Core.Bool.{Bool, false, _&&_, cond}
 use mathlib.Core.List.{List}
-use lib.Dec.{eqb}
+use lib.Dec.{eqb, ltb}
 use lib.ListN.{length, getD}
 use Rattle.sessions.specs.Find.{Found, none, at}
-use Rattle.sessions.specs.Sound.{sound}
+use Rattle.sessions.specs.Sound.{sound, handSound}
 use Rattle.sessions.specs.Table.{State}
 use Rattle.slot.specs.Fields.{slotOf}
 use Rattle.table_layout.specs.Layout.{tableBytes, number, maxAt, lastAt, markAt, handAt}
@@ -30,3 +30,7 @@ soundBytes b = eqb (length b) tableBytes && sound (abs b)
 pub record Seen (b : List ℕ) (s : ℕ) (seen : List ℕ) : Type 0 where
   pub room : s ≤ length seen
   pub tickets : (i : ℕ) → i < s → getD seen i 0 ≡ slotOf b i .ticket
+
+-- what is known of the hand after the first s numbers: nothing before its session is passed
+abbrev pub handKnown : List ℕ → ℕ → ℕ → Bool
+handKnown b hand s = cond (ltb s hand) false (handSound (abs b) (handOf hand))

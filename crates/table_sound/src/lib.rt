@@ -10,14 +10,14 @@ use slot::get_head;
 use table_layout::Table;
 use table_layout::get_table;
 ghost use mathlib.Core.Path.{_≡_};
-ghost use mathlib.Core.Bool.{_&&_, not};
+ghost use mathlib.Core.Bool.{_&&_, not, cond};
 ghost use Prim.Native.Nat.{_+_, _<_, _≤_};
 ghost use lib.Dec.{eqb, ltb};
 ghost use lib.ListN.{length, getD};
 ghost use Rattle.counts.specs.Limits.{commands, sessions};
 ghost use Rattle.sessions.specs.Find.{all};
 ghost use Rattle.sessions.specs.Sound.{headSound, inRangeAndReal, slotSound, handSound};
-ghost use Rattle.sessions.specs.Table.{within};
+ghost use Rattle.sessions.specs.Table.{within, isWaiting};
 ghost use Rattle.slot.specs.Fields.{headOf, entryOf, slotOf, Tells};
 ghost use Rattle.table_layout.specs.Layout.{tableBytes, tableOf};
 ghost use Rattle.table_sound.specs.Bytes.{handOf, abs, soundBytes, Seen};
@@ -103,38 +103,36 @@ fn slot_is_sound(b: &[u8], t: Table, s: SessionNumber, h: Head, seen: &[u32]) ->
     }
 }
 
-fn slots_are_sound(b: &[u8], t: Table) -> bool
+// Whether the session in hand waits, once it is passed: known is what was known before this one.
+fn waits_in_hand(hand: u32, s: SessionNumber, h: Head, known: bool) -> bool
+    requires { ⌜ s .0 < sessions ⌝ }
+    ensures { λ r. ⌜ Tells h (λ x. cond (eqb (s .0 + 1) hand) (isWaiting x) known) r ⌝ }
+{
+    if s.0 + 1 == hand {
+        return h.is_waiting();
+    }
+    known
+}
+
+// Whether each session is sound, and the command in hand is the lowest unanswered of its session. One pass, in which each head is read once.
+fn sessions_are_sound(b: &[u8], t: Table) -> bool
     requires { ⌜ (length (now b) ≡ tableBytes) × (t ≡ tableOf (now b)) ⌝ }
-    ensures { λ r. ⌜ r ≡ all sessions (λ s. slotSound (abs (now (b .entry))) s (slotOf (now (b .entry)) s)) ⌝ }
+    ensures { λ r. ⌜ r ≡ (all sessions (λ s. slotSound (abs (now (b .entry))) s (slotOf (now (b .entry)) s)) && handSound (abs (now (b .entry))) (handOf (t .hand))) ⌝ }
 {
     let mut seen = [0u32; Table::SESSIONS as usize];
+    let mut waits = t.hand == 0;
     let mut s: u32 = 0;
     while s < Table::SESSIONS {
         let h = get_head(b, SessionNumber(s));
         if slot_is_sound(b, t, SessionNumber(s), h, &seen) {
             seen[s as usize] = h.ticket_held().0;
+            waits = waits_in_hand(t.hand, SessionNumber(s), h, waits);
             s += 1;
         } else {
             return false;
         }
     }
-    true
-}
-
-// Whether the command in hand is the lowest unanswered of its session.
-fn hand_is_sound(b: &[u8], hand: u32) -> bool
-    requires { ⌜ length (now b) ≡ tableBytes ⌝ }
-    ensures { λ r. ⌜ r ≡ handSound (abs (now (b .entry))) (handOf hand) ⌝ }
-{
-    if hand == 0 {
-        return true;
-    }
-    let s = hand - 1;
-    if s < Table::SESSIONS {
-        get_head(b, SessionNumber(s)).is_waiting()
-    } else {
-        false
-    }
+    waits
 }
 
 pub fn is_sound(b: &[u8]) -> bool
@@ -145,12 +143,7 @@ pub fn is_sound(b: &[u8]) -> bool
     }
     let t = get_table(b);
     if limits_are_sound(t) {
-        if slots_are_sound(b, t) {
-            hand_is_sound(b, t.hand)
-        } else {
-            false
-        }
-    } else {
-        false
+        return sessions_are_sound(b, t);
     }
+    false
 }
