@@ -5,7 +5,7 @@ use Prim.Native.Nat.{ℕ, suc, _+_, _-_, _≤_, _<_, min}
 use native.Mathlib.Omega.{arith}
 use native.Mathlib.Numerals.{add-one}
 use lib.ListN.{length, take, drop, getD, length-take, length-drop, take-append-drop}
-use lib.Seq.{drop-cons, take-add, take-at, drop-at, drop-drop}
+use lib.Seq.{drop-cons, getD-drop, take-all, take-add, take-at, drop-at, drop-drop}
 use Rattle.field.specs.Part.{part}
 
 pub length-part : (s : List ℕ) (at w : ℕ) → length (part s at w) ≡ min w (length s - at)
@@ -14,6 +14,17 @@ length-part s at w = simp (length-take, length-drop)
 
 pub length-part-in : (s : List ℕ) (at w : ℕ) → at + w ≤ length s → length (part s at w) ≡ w
 length-part-in s at w h = omega (arith, length-part s at w)
+
+-- a part that is the whole
+pub part-all : (s : List ℕ) (w : ℕ) → length s ≤ w → part s 0 w ≡ s
+unfolding part
+part-all s w h = take-all w s h
+
+-- the first byte of what stands at a place
+pub head-at : (s : List ℕ) (at x : ℕ) (xs : List ℕ) → drop at s ≡ x ∷ xs → getD s at 0 ≡ x
+head-at s at x xs h =
+    let e : at + 0 ≡ at = omega arith in
+    sym (rw e at (getD-drop at s 0 0)) ∙ ap (λ (l : List ℕ). getD l 0 0) h
 
 pub part-cons : (s : List ℕ) (at w : ℕ) → at < length s → part s at (suc w) ≡ getD s at 0 ∷ part s (at + 1) w
 unfolding part

@@ -47,6 +47,11 @@ pub put-snoc : (d : List ℕ) (at : ℕ) (xs : List ℕ) (b : ℕ) → set (put 
 unfolding put
 put-snoc d at xs b = put-put xs (b ∷ []) d at
 
+-- one byte written
+pub wrote-byte : (d : List ℕ) (at b : ℕ) → Wrote d at (b ∷ []) (set d at b) (at + 1)
+unfolding put
+wrote-byte d at b = record { next = refl; bytes = refl }
+
 -- a write and then another, where the first ended
 pub then : {d e f xs ys : List ℕ} {at a b : ℕ} → Wrote d at xs e a → Wrote e a ys f b → Wrote d at (xs ++ ys) f b
 then {d} {e} {f} {xs} {ys} {at} {a} {b} v w = record {

@@ -12,7 +12,7 @@ use lib.ListN.{length, getD, drop, length-append, drop-of-length-le, List·getD-
 use lib.Seq.{drop-cons, drop-drop, drop-append-seam, getD-drop}
 use Rattle.laws.proofs.Choose.{and-left, and-right}
 use Rattle.field.specs.Part.{part}
-use Rattle.field.proofs.Parts.{length-part, length-part-in, is-part}
+use Rattle.field.proofs.Parts.{head-at, length-part, length-part-in, is-part}
 use Rattle.decimal.specs.Digits.{allDigits}
 use Rattle.number.specs.Number.{unsigned, spelled, Numeral}
 use Rattle.scan.specs.Kinds.{isDigit, isLetter, isNumericByte}
@@ -56,11 +56,6 @@ low-at : (l : List ℕ) → ((b : ℕ) → List·Memᴰ b l → b ≤ 57) → (k
 low-at [] h k = omega arith
 low-at (x ∷ l) h zero = h x (List·Memᴰ·head refl)
 low-at (x ∷ l) h (suc k) = low-at l (λ b m. h b (List·Memᴰ·tail m)) k
-
-head-at : (s : List ℕ) (k x : ℕ) (xs : List ℕ) → drop k s ≡ x ∷ xs → getD s k 0 ≡ x
-head-at s k x xs h =
-    let e : k + 0 ≡ k = omega arith in
-    sym (rw e at (getD-drop k s 0 0)) ∙ ap (λ (l : List ℕ). getD l 0 0) h
 
 -- ---- where the numeric run has ended
 
@@ -208,7 +203,7 @@ module _ (s : List ℕ) (i b : ℕ) (room : b ≤ length s) (stop : isNumericByt
       by-minus s i (omega arith) (head-at s i 45 (unsigned w f ++ drop b s) stands) (first-digit s (i + 1) w f (drop b s) (n .whole) (n .some) rest)
       ∙ shaped s b stop (i + 1) (omega arith) w (n .whole) f (n .after) rest short (n .few) i time
 
-some-bytes : (minus : Bool) (w f : List ℕ) → 1 ≤ length w → 1 ≤ length (spelled minus w f)
+pub some-bytes : (minus : Bool) (w f : List ℕ) → 1 ≤ length w → 1 ≤ length (spelled minus w f)
 some-bytes false w [] h = h
 some-bytes false w (x ∷ f) h = omega (arith, length-append w (46 ∷ (x ∷ f)))
 some-bytes true w f h = omega arith

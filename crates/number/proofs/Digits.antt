@@ -114,7 +114,7 @@ abbrev the-number : ℤ → ℕ → Number
 the-number v n = record { mantissa = v; scale = n }
 
 -- the number, from what the functions found
-first-byte : (s : List ℕ) (at w : ℕ) → at + w ≤ length s → 0 < w → getD (part s at w) 0 0 ≡ getD s at 0
+pub first-byte : (s : List ℕ) (at w : ℕ) → at + w ≤ length s → 0 < w → getD (part s at w) 0 0 ≡ getD s at 0
 first-byte s at w room l =
     let e : w ≡ suc (w - 1) = omega arith in
     rw (e, part-cons s at (w - 1) (omega arith))
