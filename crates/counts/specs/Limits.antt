@@ -44,3 +44,7 @@ codeMost = 99999999
 -- "last ticket is 4,294,967,295"
 abbrev pub ticketMost : ℕ
 ticketMost = 4294967295
+
+-- P1: "1 to 64 columns"
+abbrev pub columns : ℕ
+columns = 64

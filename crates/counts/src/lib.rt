@@ -48,6 +48,8 @@ pub const CODE_MOST: u32 = 99999999;
 
 pub const TICKET_MOST: u32 = 4294967295;
 
+pub const COLUMNS: usize = 64;
+
 // The refusal numbers.
 
 // job file over 65,535 bytes

@@ -1,6 +1,6 @@
 -- The words of a job file (document 01, "Bytes and tokens", "The job grammar"): where a word ends, and which it is.
 use Prim.Native.Nat.{ℕ, _+_, _-_}
-use mathlib.Core.Bool.{cond, _&&_}
+use mathlib.Core.Bool.{Bool, true, false, cond, _&&_}
 use mathlib.Core.List.{List, [], _∷_}
 use lib.Dec.{eqb, ltb}
 use lib.ListN.{length}
@@ -44,6 +44,23 @@ reserved =
 abbrev pub whichOf : List Spelling → List ℕ → ℕ → ℕ → Word
 whichOf [] s a n = Name
 whichOf (r ∷ rs) s a n = cond (eqb n (length (r .letters)) && hasAt s a (r .letters)) (r .word) (whichOf rs s a n)
+
+-- whether it is a name
+abbrev pub isName : Word → Bool
+isName Job = false
+isName Response = false
+isName Upload = false
+isName Download = false
+isName GetInfo = false
+isName Abort = false
+isName Report = false
+isName Event = false
+isName Start = false
+isName Active = false
+isName Immediate = false
+isName Other = false
+isName Name = true
+isName TimeGe = false
 
 unfoldable pub whichWord : List ℕ → ℕ → ℕ → Word
 whichWord s a n = whichOf reserved s a n

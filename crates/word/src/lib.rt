@@ -8,7 +8,7 @@ ghost use mathlib.Core.Bool.{cond};
 ghost use Prim.Native.Nat.{_<_};
 ghost use lib.ListN.{length};
 ghost use Rattle.field.specs.Bytes.{hasAt};
-ghost use Rattle.word.specs.Word.{whichWord, wordRead};
+ghost use Rattle.word.specs.Word.{isName, whichWord, wordRead};
 
 // Which word it is: a reserved one, a name, or TIME>=. Other is STOP, TIME or NEVER, which no production takes. They stand in the order of
 // the classes, so that a word's class costs nothing.
@@ -33,6 +33,28 @@ pub enum Word {
 pub enum WordRead {
     Is(Word, usize),
     NoWord,
+}
+
+// Whether it is a name.
+pub fn is_name(w: Word) -> bool
+    ensures { λ r. ⌜ r ≡ isName w ⌝ }
+{
+    match w {
+        Word::Job => false,
+        Word::Response => false,
+        Word::Upload => false,
+        Word::Download => false,
+        Word::GetInfo => false,
+        Word::Abort => false,
+        Word::Report => false,
+        Word::Event => false,
+        Word::Start => false,
+        Word::Active => false,
+        Word::Immediate => false,
+        Word::Other => false,
+        Word::Name => true,
+        Word::TimeGe => false,
+    }
 }
 
 // The word w where its letters stand at a, else another.
