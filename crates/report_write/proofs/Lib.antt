@@ -1,0 +1,4 @@
+pub mod Fields
+pub mod Given
+pub mod Loops
+pub mod Writes
