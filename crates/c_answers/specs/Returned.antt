@@ -13,7 +13,7 @@ use Rattle.c_numbers.specs.Kinds.{kindNumber}
 abbrev pub placeLimit : ℕ
 placeLimit = 72057594037927936
 
--- "A refusal returns its number, the place for 3 to 6 in a file (else 0)": 0 where there is none, else 64 bits, the number in the low eight
+-- "A refusal returns its number, the place for 3 to 6 in a file (else 0)", P1: "7, reading with the start of the first line that doesn't fit": 0 where there is none, else 64 bits, the number in the low eight
 -- and the place in the 56 above.
 abbrev pub returned : {A : Type 0} → Result A → ℕ
 returned (refused number place) = number % 256 + 256 * (place % placeLimit)
@@ -48,6 +48,11 @@ GivesTaken a r number number' ticket ticket' command command' =
     × (ticket' ≡ leftIn ticket (λ x. x .1) a)
     × (command' ≡ leftIn command (λ x. x .2) a)
 
+-- of a report: its columns, and its lines of values
+abbrev pub GivesReport : Result (ℕ × ℕ) → ℕ → ℕ → ℕ → ℕ → ℕ → Type 0
+GivesReport a r columns columns' lines lines' =
+    (r ≡ returned a) × (columns' ≡ leftIn columns (λ x. x .0) a) × (lines' ≡ leftIn lines (λ x. x .1) a)
+
 -- of something that is read into an array of numbers
 abbrev pub GivesNumbers : {A : Type 0} → (A → List ℕ) → Result A → ℕ → List ℕ → List ℕ → Type 0
 GivesNumbers part a r numbers numbers' = (r ≡ returned a) × (numbers' ≡ leftIn numbers part a)
@@ -60,4 +65,4 @@ GivesStatement a r numbers numbers' mantissa mantissa' =
 
 -- The version of the calls that the header declares: one more with each change of a name, a type, a number or a size there.
 abbrev pub version : ℕ
-version = 2
+version = 3

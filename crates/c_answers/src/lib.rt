@@ -3,6 +3,7 @@
 pub mod jobs;
 pub mod names;
 pub mod records;
+pub mod reports;
 pub mod tables;
 
 use counts::Refusal;

@@ -3,12 +3,13 @@ pub mod jobs;
 pub mod moments;
 pub mod names;
 pub mod records;
+pub mod reports;
 pub mod tables;
 
 ghost use mathlib.Core.Path.{_≡_};
 ghost use Rattle.c_answers.specs.Returned.{version};
 
-pub const VERSION: u32 = 2;
+pub const VERSION: u32 = 3;
 
 // The version that a header is held against.
 #[no_mangle]
