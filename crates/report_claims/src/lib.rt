@@ -1,0 +1,1 @@
+// No function: reading and writing reports as theorems.
