@@ -1,0 +1,45 @@
+-- `read_rest` is safe and ends: left counts down.
+use borrow.Author.Needs.{needs}
+use Rattle.report_rows.proofs.read_rest.Statement.{statement}
+use Rattle.report_rows.proofs.read_rest.Tie as tie
+
+abbrev Inv-loop : tie.InvT-loop
+Inv-loop left₀ left = Unit {0}
+
+abbrev μ-loop : tie.MeasureT-loop
+μ-loop left₀ left = left
+
+loop-holds : tie.Need-loop-holds Inv-loop μ-loop
+loop-holds c = search needs
+
+is-at-end-requires : tie.Need-is-at-end-requires Inv-loop μ-loop
+is-at-end-requires c κs = search needs
+
+returns : tie.Need-returns Inv-loop μ-loop
+returns c = search needs
+
+sub-left : tie.Need-sub-left Inv-loop μ-loop
+sub-left c = search needs
+
+loop-less : tie.Need-loop-less Inv-loop μ-loop
+loop-less c = search needs
+
+loop-again : tie.Need-loop-again Inv-loop μ-loop
+loop-again c = search needs
+
+returns-2 : tie.Need-returns-2 Inv-loop μ-loop
+returns-2 c = search needs
+
+pub read-rest-spec : {M : Type 1} → statement M
+read-rest-spec =
+    tie.close
+    (tie.spec
+    Inv-loop
+    μ-loop
+    loop-holds
+    is-at-end-requires
+    returns
+    sub-left
+    loop-less
+    loop-again
+    returns-2)
