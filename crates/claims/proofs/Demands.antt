@@ -34,6 +34,13 @@ use Rattle.number.proofs.Numerals.{numeral-reads, minus-zero}
 use Rattle.item.proofs.NumberTokens.{number-token-exactly, number-is-small}
 use Rattle.token.specs.Token.{WholeString, isTextAt, contentAt}
 use Rattle.token.proofs.Whole.{whole-string-exactly, string-token-exactly}
+use Rattle.report.specs.Report.{Told}
+use Rattle.report.specs.Answer as report
+use Rattle.report_write.specs.Writing as reportWriting
+use Rattle.report_claims.proofs.Read.{read-report-exactly, break-exactly}
+use Rattle.report_claims.proofs.Write.{write-report-exactly}
+use Rattle.report_claims.proofs.RoundTrip.{read-exactly, one-report, report-parts, rows-to-text-to-rows, text-to-rows-to-text}
+use Rattle.report_claims.proofs.Says as reports
 use Rattle.session_table.specs.Calls.{making, madeBytes, collectedOut}
 use Rattle.session_table.proofs.Untouched.{answering-changes-nothing-else}
 use Rattle.session_histories.proofs.Does.{place-does, take-does, answer-does, collect-does, keeps}
@@ -41,12 +48,12 @@ use Rattle.session_histories.proofs.Fresh.{fresh-bytes}
 use Rattle.sessions.proofs.Laws.{in-range}
 use Rattle.sessions.specs.Table.{within, fresh}
 use Rattle.table_sound.specs.Bytes.{abs}
-use Rattle.claims.specs.Demands.{Demand1, Demand2}
+use Rattle.claims.specs.Demands.{Demand1, Demand2, Reports}
 use Rattle.claims.proofs.Demand1.{one-result}
 use Rattle.claims.proofs.Demand1Names.{read-name-exactly, write-name-exactly, refused-write-changes-nothing, read-name-determined, write-name-determined}
 use Rattle.claims.proofs.Demand1Records.{read-record-exactly, write-record-exactly, refused-record-changes-nothing, read-record-determined, write-record-determined}
 use Rattle.claims.proofs.Demand1Statements.{read-statement-exactly}
-use Rattle.claims.proofs.Fits.{read-name-fits, write-name-fits, read-record-fits, write-record-fits, read-job-fits, read-statement-fits, make-fits, place-fits, take-up-fits, answer-fits, collect-fits}
+use Rattle.claims.proofs.Fits.{read-name-fits, write-name-fits, read-record-fits, write-record-fits, read-job-fits, read-statement-fits, read-report-fits, write-report-fits, make-fits, place-fits, take-up-fits, answer-fits, collect-fits}
 use Rattle.claims.proofs.Demand1Table.{make-exactly, place-exactly, take-up-exactly, answer-exactly, collect-exactly}
 use Rattle.claims.proofs.Demand1TableResults.{make-refused-keeps, place-refused-keeps, take-up-refused-keeps, answer-refused-keeps, collect-refused-keeps, make-determined, place-determined, take-up-determined, answer-determined, collect-determined}
 
@@ -90,6 +97,14 @@ demand-1 =
             refusal-leaves = λ number place e. ap (λ (x : Reading). filled x offsets) e;
           };
       reads-statement = read-statement-exactly;
+      reads-report = λ d file cells. record {
+        answers = read-report-exactly d file (length cells);
+        refusal-leaves = λ number place e. ap (λ (x : Result Told). report.filled x cells) e;
+      };
+      writes-report = λ source cells many d out. record {
+        answers = write-report-exactly source cells many d (length out);
+        refusal-leaves = λ number place e. ap (λ (x : Result (List ℕ)). reportWriting.filled x out) e;
+      };
       makes = λ b max. record { answers = make-exactly b max; refusal-leaves = make-refused-keeps b max };
       places = λ b p n. record { answers = place-exactly b p n; refusal-leaves = place-refused-keeps b p n };
       takes-up = λ b. record { answers = take-up-exactly b; refusal-leaves = take-up-refused-keeps b };
@@ -105,6 +120,8 @@ demand-1 =
       fits-write-record = write-record-fits commands;
       fits-read-job = read-job-fits;
       fits-read-statement = read-statement-fits;
+      fits-read-report = read-report-fits;
+      fits-write-report = write-report-fits;
       fits-make = make-fits;
       fits-place = λ b. place-fits b (abs b);
       fits-take-up = λ b. take-up-fits b (abs b);
@@ -116,6 +133,8 @@ demand-1 =
       one-written-record = write-record-determined;
       one-job = one-result one-job-answer;
       one-statement = one-result one-statement-answer;
+      one-read-report = one-result reports.read-says-all;
+      one-written-report = one-result reports.write-says-all;
       one-made = make-determined;
       one-placed = place-determined;
       one-taken-up = take-up-determined;
@@ -192,4 +211,17 @@ demand-2 =
       record-length = records.lengths;
       name-write-then-read = names.write-then-read;
       name-read-then-write = names.read-then-write;
+    }
+
+-- ---- report files
+
+pub report-files : Reports
+report-files =
+    record {
+      read-exactly = read-exactly;
+      one-report = one-report;
+      told-parts = report-parts;
+      break-exactly = break-exactly;
+      rows-to-text-to-rows = rows-to-text-to-rows;
+      text-to-rows-to-text = text-to-rows-to-text;
     }

@@ -1,8 +1,11 @@
 -- Every refusal of every call fits what C gets, row by row.
 use Prim.Native.Nat.{ℕ, _≤_}
+use mathlib.Core.Path.{ap}
 use mathlib.Core.List.{List}
 use native.Mathlib.Omega.{arith}
+use lib.ListN.{length, length-append}
 use Rattle.counts.specs.Limits.{fileBytes}
+use Rattle.report.specs.Report.{reportText, Breaks, at-names, at-line}
 use Rattle.counts.specs.Result.Result.{refused}
 use Rattle.sessions.specs.Table.{State}
 use Rattle.sessions.specs.declared.Answer.{Answer}
@@ -10,7 +13,8 @@ use Rattle.record.specs.Record.{Content}
 use Rattle.job_claims.specs.Verdict.{Verdict}
 use Rattle.job_claims.proofs.Claims.{refusal-fits, only}
 use Rattle.job_claims.proofs.Statements.{statement-refusal-fits}
-use Rattle.claims.specs.Fits.{Fits}
+use Rattle.report_claims.specs.Rows as report-row
+use Rattle.claims.specs.Fits.{FitsUpTo, Fits}
 use Rattle.claims.specs.NameRows as name
 use Rattle.claims.specs.RecordRows as record-row
 use Rattle.claims.specs.TableRows as row
@@ -41,6 +45,22 @@ read-job-fits file room number place v = refusal-fits file room (only file room 
 
 pub read-statement-fits : (file : List ℕ) (at : ℕ) → Fits (StatementRow file at)
 read-statement-fits file at number place v = statement-refusal-fits file at (read-statement-exactly file at .1 (refused number place) v)
+
+-- a report's 7 has the start of a line, which stands within the file
+breaks-inside : {d : ℕ} {text : List ℕ} {p : ℕ} → Breaks d text p → p ≤ length text
+breaks-inside (at-names none) = omega arith
+breaks-inside {d} (at-line r rest fits is goes-on none) = omega (arith, ap length is, length-append (reportText d r) rest)
+
+pub read-report-fits : (d : ℕ) (file : List ℕ) (room : ℕ) → FitsUpTo (length file) (report-row.ReadReportRow d file room)
+read-report-fits d file room number place (report-row.eleven e) = (omega arith, omega arith, omega arith)
+read-report-fits d file room number place (report-row.seven e b) = (omega arith, omega arith, breaks-inside b)
+read-report-fits d file room number place (report-row.eight r e h l) = (omega arith, omega arith, omega arith)
+
+pub write-report-fits : (source cells : List ℕ) (many d room : ℕ) → Fits (report-row.WriteReportRow source cells many d room)
+write-report-fits source cells many d room number place (report-row.eleven-delimiter e) = without-place (omega arith) (omega arith)
+write-report-fits source cells many d room number place (report-row.eleven-columns e n) = without-place (omega arith) (omega arith)
+write-report-fits source cells many d room number place (report-row.seven e s f n) = without-place (omega arith) (omega arith)
+write-report-fits source cells many d room number place (report-row.eight r e g l) = without-place (omega arith) (omega arith)
 
 pub make-fits : (b : List ℕ) (max : ℕ) → Fits (row.MakeRow b max)
 make-fits b max number place (row.eleven e) = without-place (omega arith) (omega arith)

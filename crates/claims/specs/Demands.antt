@@ -9,7 +9,7 @@ use mathlib.Core.Logic.{_↔_, _⊎_}
 use lib.IntN.{natAbs}
 use lib.ListN.{length, getD, drop}
 use Rattle.counts.specs.Limits.{fileBytes, commands, sessions}
-use Rattle.counts.specs.Refusals.{fileTooLong, tooFewPlaces, noToken, unexpected, notReal, tooManyStatements, unsound}
+use Rattle.counts.specs.Refusals.{fileTooLong, tooFewPlaces, noToken, unexpected, notReal, tooManyStatements, notARecord, unsound}
 use Rattle.counts.specs.Result.{Result, refused, done, counted}
 use Rattle.field.specs.Bytes.{ascii}
 use Rattle.field.specs.Part.{part, put}
@@ -39,6 +39,12 @@ use Rattle.job.specs.Job.{readJob, filled, paperJob}
 use Rattle.job.specs.Statement.{placed as placedAt, Tiled, readStatement, paperStatementAt, textAt}
 use Rattle.job_claims.specs.Verdict.{Verdict, Taken, Crowded}
 use Rattle.job_claims.specs.Rows.{One}
+use Rattle.delimited.specs.Lines.{isDelimiter, fields, Parts}
+use Rattle.report.specs.Report.{Rows, reportText, Report, Breaks, Told, told}
+use Rattle.report.specs.Reading.{readReport}
+use Rattle.report.specs.Answer as report
+use Rattle.report_write.specs.Writing as reportWriting
+use Rattle.report_claims.specs.Rows.{ReadReportRow, WriteReportRow, Given, ReadAs}
 use Rattle.sessions.specs.History.{Call, toPlace, toTakeUp, toAnswer, toCollect, Event, placed, tookUp, answered, collected, collectedAs, placings, accepted, collections}
 use Rattle.sessions.specs.Runs.{historyOf, makesAnew, neverAnew, refusedWith, Refuses}
 use Rattle.sessions.specs.Records.{recordOf}
@@ -55,7 +61,7 @@ use Rattle.session_table.specs.Paper.{paperMade, paperPlaced, paperTakenUp, pap
 use Rattle.session_table.specs.declared.Collected.{Collected}
 use Rattle.session_histories.specs.Steps.{Step, stepBytes, bytesAfter}
 use Rattle.claims.specs.Exactly.{Exactly, Obeys, OneResult}
-use Rattle.claims.specs.Fits.{Fits}
+use Rattle.claims.specs.Fits.{FitsUpTo, Fits}
 use Rattle.claims.specs.NameRows.{ReadNameRow, WriteNameRow}
 use Rattle.claims.specs.RecordRows.{ReadRow, WriteRow}
 use Rattle.claims.specs.StatementRows.{StatementRow}
@@ -74,6 +80,10 @@ pub record Demand1 : Type 0 where
       → Obeys (WriteRow commands c (length out)) out (writing.written commands c out, writing.writtenBytes commands c out)
   pub reads-job : (file offsets : List ℕ) → let x = readJob file (length offsets) in Obeys (Verdict file (length offsets)) offsets (x, filled x offsets)
   pub reads-statement : (file : List ℕ) (at : ℕ) → Exactly (readStatement file at) (StatementRow file at)
+  pub reads-report : (d : ℕ) (file cells : List ℕ) → let x = readReport d file (length cells) in
+      Obeys (ReadReportRow d file (length cells)) cells (x, report.filled x cells)
+  pub writes-report : (source cells : List ℕ) (many d : ℕ) (out : List ℕ) → let x = reportWriting.written source cells many d (length out) in
+      Obeys (WriteReportRow source cells many d (length out)) out (x, reportWriting.filled x out)
   pub makes : (b : List ℕ) (max : ℕ) → Obeys (MakeRow b max) b (making b max, madeBytes b max)
   pub places : (b : List ℕ) (p n : ℕ) → Obeys (PlaceRow b (abs b) p n) b (placing b p n, placedBytes b p n)
   pub takes-up : (b : List ℕ) → Obeys (TakeUpRow b (abs b)) b (takingUp b, takenBytes b)
@@ -88,6 +98,8 @@ pub record Demand1 : Type 0 where
   pub fits-write-record : (c : Content) (room : ℕ) → Fits (WriteRow commands c room)
   pub fits-read-job : (file : List ℕ) (room : ℕ) → Fits (Verdict file room)
   pub fits-read-statement : (file : List ℕ) (at : ℕ) → Fits (StatementRow file at)
+  pub fits-read-report : (d : ℕ) (file : List ℕ) (room : ℕ) → FitsUpTo (length file) (ReadReportRow d file room)
+  pub fits-write-report : (source cells : List ℕ) (many d room : ℕ) → Fits (WriteReportRow source cells many d room)
   pub fits-make : (b : List ℕ) (max : ℕ) → Fits (MakeRow b max)
   pub fits-place : (b : List ℕ) (p n : ℕ) → Fits (PlaceRow b (abs b) p n)
   pub fits-take-up : (b : List ℕ) → Fits (TakeUpRow b (abs b))
@@ -100,6 +112,8 @@ pub record Demand1 : Type 0 where
   pub one-written-record : OneResult (List ℕ) writing.paperRecordWritten
   pub one-job : OneResult (List ℕ) paperJob
   pub one-statement : OneResult (Unit {0}) paperStatementAt
+  pub one-read-report : OneResult (List ℕ) report.paperReportRead
+  pub one-written-report : OneResult (List ℕ) reportWriting.paperReportWritten
   pub one-made : OneResult (List ℕ) paperMade
   pub one-placed : OneResult (List ℕ) paperPlaced
   pub one-taken-up : OneResult (List ℕ) paperTakenUp
@@ -205,6 +219,24 @@ pub record Demand2 : Type 0 where
       → name.nameRead max (part (name.writtenBytes max n kind out) 0 12) ≡ done (n, kind)
   pub name-read-then-write : (max n : ℕ) (kind : Kind) (bytes out : List ℕ) → name.nameRead max bytes ≡ done (n, kind) → 12 ≤ length out
       → (name.written max n out ≡ done 12) × (part (name.writtenBytes max n kind out) 0 12 ≡ bytes)
+
+-- ---- Report files (document 02, P1), over the delimiter, of which only "comma, semicolon, vertical bar or tab" is known
+
+pub record Reports : Type 0 where
+  -- The reader takes a text when, and only when, it is the report of some rows, and gives those rows; there is one such list of rows.
+  pub read-exactly : (d : ℕ) (text : List ℕ) (room : ℕ) (t : Told) → readReport d text room ≡ done t ↔ ReadAs d text room t
+  pub one-report : (d : ℕ) → isDelimiter d ≡ true → (text : List ℕ) (r q : Rows) → Report d r text → Report d q text → r ≡ q
+  -- what is told of a report are the places and lengths of its names and values in the text: "a number keeps its digits"
+  pub told-parts : (d : ℕ) (r : Rows) (text : List ℕ) → Report d r text → Parts text (told d r .cells) (fields (r .names ∷ r .values))
+  -- "7, reading with the start of the first line that doesn't fit"
+  pub break-exactly : (d : ℕ) (text : List ℕ) (room p : ℕ) → readReport d text room ≡ refused notARecord p ↔ ((isDelimiter d ≡ true) × Breaks d text p)
+  -- "Text to rows and back must agree whichever delimiter is chosen, proved once for the four."
+  pub rows-to-text-to-rows : (d : ℕ) → isDelimiter d ≡ true → (source cells : List ℕ) (many : ℕ) (r : Rows) → Given source cells many r → (room lent : ℕ)
+      → length (reportText d r) ≤ room → length (told d r .cells) ≤ lent
+      → (reportWriting.written source cells many d room ≡ done (reportText d r)) × (readReport d (reportText d r) lent ≡ done (told d r))
+      × Parts (reportText d r) (told d r .cells) (fields (r .names ∷ r .values))
+  pub text-to-rows-to-text : (d : ℕ) (text : List ℕ) (lent : ℕ) (t : Told) → readReport d text lent ≡ done t → (room : ℕ) → length text ≤ room
+      → reportWriting.written text (t .cells) (t .columns) d room ≡ done text
 
 -- ---- Demand 3: "From a fresh table, after any sequence of calls by up to eight programs and one machine:" of any way to answer a table's calls, with
 -- `fresh` for what is made and `step` for what a call answers and leaves. Lists of calls and events have the newest first.

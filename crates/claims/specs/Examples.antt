@@ -1,5 +1,5 @@
--- The examples that document 01 marks with a star, and both ends, sign and zero of its numbers, in one table: 01's words, and the test that
--- they are, on the definitions that the contracts cite. `proofs/Examples` proves that every row holds, by one computation.
+-- The examples that document 01 marks with a star, both ends, sign and zero of its numbers, and some report files of document 02's P1, in one table: the
+-- words, and the test that they are, on the definitions that the contracts cite. `proofs/Examples` proves that every row holds, by one computation.
 use Prim.Native.Nat.{ℕ}
 use Prim.Native.String.{String}
 use mathlib.Core.Bool.{Bool, true, false, not, _&&_}
@@ -10,7 +10,7 @@ use lib.ListN.{length}
 use Rattle.field.specs.Bytes.{ascii, same}
 use Rattle.calendar.specs.Calendar.{realDate, realTime}
 use Rattle.counts.specs.Limits.{statements}
-use Rattle.counts.specs.Refusals.{noToken, unexpected, outOfRange}
+use Rattle.counts.specs.Refusals.{noToken, unexpected, notARecord, tooLittleRoom, outOfRange}
 use Rattle.counts.specs.Result.{Result, refused, done}
 use Rattle.job.specs.Job.{readJob}
 use Rattle.number.specs.Number.{numberOf}
@@ -18,6 +18,9 @@ use Rattle.number.specs.declared.Number.{Number}
 use Rattle.record.specs.Record.{content, recordBytes}
 use Rattle.record.specs.declared.Outcome.{Outcome}
 use Rattle.record.specs.declared.Outcome.the-variants.{Processed, Error}
+use Rattle.report.specs.Report.{Told}
+use Rattle.report.specs.Reading.{readReport}
+use Rattle.report_write.specs.Writing.{written}
 use Rattle.session_name.specs.Name.{nameRead}
 
 pub record Row : Type 0 where
@@ -34,6 +37,11 @@ isRefused number place (done a) = false
 abbrev pub isTaken : {A : Type 0} → Result A → Bool
 isTaken (refused n p) = false
 isTaken (done a) = true
+
+-- the bytes that a call gives
+abbrev pub isBytes : List ℕ → Result (List ℕ) → Bool
+isBytes bytes (refused n p) = false
+isBytes bytes (done given) = same given bytes
 
 -- a job file of these bytes is taken, and its statements begin at these offsets
 abbrev pub isTakenAt : List ℕ → Result (List ℕ) → Bool
@@ -62,6 +70,20 @@ reads text mantissa scale = isRefused unexpected 0 (job text) && sameNumber (num
 abbrev pub recordLength : Outcome → ℕ
 recordLength outcome = length (recordBytes (content 1 outcome [] 20240430 235959))
 
+-- a report with commas, read with room for eight cells
+abbrev pub report : String → Result Told
+report text = readReport 44 (ascii text) 16
+
+-- it is taken, with so many columns and lines, and its cells are these
+abbrev pub isTold : ℕ → ℕ → List ℕ → Result Told → Bool
+isTold columns lines cells (refused n p) = false
+isTold columns lines cells (done t) = eqb (t .columns) columns && eqb (t .lines) lines && same (t .cells) cells
+
+-- what is written again of the report in text, from what was told of it, is the text
+abbrev pub isWrittenAgain : String → Result Told → Bool
+isWrittenAgain text (refused n p) = false
+isWrittenAgain text (done t) = isBytes (ascii text) (written (ascii text) (t .cells) (t .columns) 44 (length (ascii text)))
+
 unfoldable pub examples : List Row
 examples =
     row "empty file: 4 at 0" (isRefused unexpected 0 (job ""))
@@ -86,6 +108,17 @@ examples =
     ∷ row "23:59:59: taken" (realTime 235959)
     ∷ row "SESS0032.REQ with MaxSessions 32: 11" (isRefused outOfRange 0 (nameRead 32 (ascii "SESS0032.REQ")))
     ∷ row "SESS0031.REQ: taken" (isTaken (nameRead 32 (ascii "SESS0031.REQ")))
+    ∷ row "a report of one name" (isTold 1 0 (0 ∷ 1 ∷ []) (report "a\r\n"))
+    ∷ row "a string may hold the delimiter" (isTold 2 1 (0 ∷ 1 ∷ 2 ∷ 1 ∷ 5 ∷ 1 ∷ 7 ∷ 5 ∷ []) (report "a,b\r\n1,\"x,y\"\r\n"))
+    ∷ row "-0, 007 and 2.50 come back as they were" (isWrittenAgain "a\r\n-0\r\n007\r\n2.50\r\n" (report "a\r\n-0\r\n007\r\n2.50\r\n"))
+    ∷ row "empty file: 7 at 0" (isRefused notARecord 0 (report ""))
+    ∷ row "a reserved word as a name: 7 at 0" (isRefused notARecord 0 (report "a,TIME\r\n"))
+    ∷ row "one value less: 7 at the line's start" (isRefused notARecord 10 (report "a,b\r\n1,2\r\n3\r\n"))
+    ∷ row "no CR LF at the end: 7 at the line's start" (isRefused notARecord 5 (report "a,b\r\n1,2"))
+    ∷ row "an empty line: 7 at its start" (isRefused notARecord 3 (report "a\r\n\r\n"))
+    ∷ row "a time is no value: 7 at the line's start" (isRefused notARecord 3 (report "a\r\n10:16:30\r\n"))
+    ∷ row "a colon is no delimiter: 11" (isRefused outOfRange 0 (readReport 58 (ascii "a\r\n") 16))
+    ∷ row "room for one cell of two: 8" (isRefused tooLittleRoom 0 (readReport 44 (ascii "a,b\r\n") 3))
     ∷ []
 
 -- every row holds

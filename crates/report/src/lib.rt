@@ -145,14 +145,18 @@ fn lines_from(s: &[u8], i: usize, d: u8, columns: usize) -> Judged
     let mut at = i;
     let mut k = 0;
     while at < s.len() {
-        let LineRead::Fields(n, next) = line_at(s, at, d, true) else {
-            return Judged::BreaksAt(at);
-        };
-        if n == columns {
-            k += 1;
-            at = next;
-        } else {
-            return Judged::BreaksAt(at);
+        match line_at(s, at, d, true) {
+            LineRead::Fields(n, next) => {
+                if n == columns {
+                    k += 1;
+                    at = next;
+                } else {
+                    return Judged::BreaksAt(at);
+                }
+            }
+            LineRead::NoLine => {
+                return Judged::BreaksAt(at);
+            }
         }
     }
     Judged::Whole(columns, k)
@@ -180,13 +184,13 @@ fn fill(s: &[u8], d: u8, cells: &mut [usize])
     let mut at = 0;
     let mut k = 0;
     while at < s.len() {
-        let FieldRead::End(end) = cell_at(s, at) else {
+        let FieldRead::End(stop) = cell_at(s, at) else {
             return;
         };
         cells[k] = at;
-        cells[k + 1] = end - at;
+        cells[k + 1] = stop - at;
         k += 2;
-        match separator_at(s, end, d) {
+        match separator_at(s, stop, d) {
             Separator::Field(next) => {
                 at = next;
             }

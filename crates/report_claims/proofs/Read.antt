@@ -10,7 +10,8 @@ use lib.Dec.{leb}
 use lib.ListN.{length}
 use Rattle.counts.specs.Refusals.{outOfRange, notARecord, tooLittleRoom}
 use Rattle.counts.specs.Result.{Result, refused, done}
-use Rattle.delimited.specs.Lines.{isDelimiter, cellsOf}
+use Rattle.counts.proofs.Results.{refused-not-done}
+use Rattle.delimited.specs.Lines.{isDelimiter}
 use Rattle.report.specs.Report.{Rows, Report, Breaks, Told, told}
 use Rattle.report.specs.Reading.{judged, cellsFrom, tell, readReport}
 use Rattle.report.specs.declared.Judged.{Judged}
@@ -54,3 +55,16 @@ module _ (d : ℕ) (s : List ℕ) (room : ℕ) where
 
   pub read-report-exactly : ReadReportRow d s room (readReport d s room) × ((v : Result Told) → ReadReportRow d s room v → readReport d s room ≡ v)
   read-report-exactly = (read-rows (isDelimiter d) refl, read-row-is)
+
+  -- the place of 7 is the start of the first line that does not fit
+  pub break-exactly : (p : ℕ) → readReport d s room ≡ refused notARecord p ↔ ((isDelimiter d ≡ true) × Breaks d s p)
+  break-exactly p = (λ e. to (read-report-exactly .0) e, λ h. broken-at (h .0) p (h .1))
+    where
+      number : {n m q r : ℕ} → _≡_ {A = Result Told} (refused n q) (refused m r) → n ≡ m
+      number e = cc
+
+      to : {v : Result Told} → ReadReportRow d s room v → v ≡ refused notARecord p → (isDelimiter d ≡ true) × Breaks d s p
+      to (eleven e) q = absurd (omega (arith, number q))
+      to (seven {p = k} is h) q = let same : k ≡ p = cc in (is, rw same at h)
+      to (eight r is h l) q = absurd (omega (arith, number q))
+      to (report-read r is h l) q = absurd (refused-not-done (sym q))

@@ -2,7 +2,8 @@
 use Prim.Native.Nat.{ℕ, _+_, _≤_}
 use mathlib.Core.Path.{_≡_, refl, sym, _∙_, ap, ap₂, subst}
 use mathlib.Core.Bool.{true}
-use mathlib.Core.List.{List, [], _∷_, _++_, append-assoc, append-nil}
+use mathlib.Core.List.{List, [], _∷_, _++_, append-assoc}
+use mathlib.Core.Logic.{_↔_}
 use native.Mathlib.Omega.{arith}
 use lib.ListN.{length, take, drop, length-append, length-drop}
 use lib.Seq.{take-at, drop-at}
@@ -18,7 +19,7 @@ use Rattle.report.specs.declared.Judged.the-variants.{Whole}
 use Rattle.report.proofs.Reports.{taken, judged-only}
 use Rattle.report.proofs.Cells.{report-cells}
 use Rattle.report_write.specs.Writing.{written}
-use Rattle.report_claims.specs.Rows.{Given, ReadReportRow, eleven, seven, eight, report-read, WriteReportRow, report-written, eleven-delimiter, eleven-columns}
+use Rattle.report_claims.specs.Rows.{Given, ReadAs, ReadReportRow, eleven, seven, eight, report-read, WriteReportRow, report-written}
 use Rattle.report_claims.proofs.Read.{read-report-exactly}
 use Rattle.report_claims.proofs.Write.{write-report-exactly}
 
@@ -103,17 +104,10 @@ one-report d is s r q h k =
 -- ---- both ways round
 
 -- the reader takes a text exactly where it is the report of some rows, and gives those rows
-pub record Taken (d : ℕ) (s : List ℕ) (room : ℕ) (t : Told) : Type 0 where
-  pub delimiter : isDelimiter d ≡ true
-  pub rows : Rows
-  pub is : Report d rows s
-  pub gives : t ≡ told d rows
-  pub room-for : length (t .cells) ≤ room
-
-pub read-exactly : (d : ℕ) (s : List ℕ) (room : ℕ) (t : Told) → readReport d s room ≡ done t → Taken d s room t
-read-exactly d s room t e = go (read-report-exactly d s room .0) e
+reads-as : (d : ℕ) (s : List ℕ) (room : ℕ) (t : Told) → readReport d s room ≡ done t → ReadAs d s room t
+reads-as d s room t e = go (read-report-exactly d s room .0) e
   where
-    go : {v : Result Told} → ReadReportRow d s room v → v ≡ done t → Taken d s room t
+    go : {v : Result Told} → ReadReportRow d s room v → v ≡ done t → ReadAs d s room t
     go (eleven h) q = absurd (refused-not-done q)
     go (seven is h) q = absurd (refused-not-done q)
     go (eight r is h l) q = absurd (refused-not-done q)
@@ -121,11 +115,14 @@ read-exactly d s room t e = go (read-report-exactly d s room .0) e
         let same : told d r ≡ t = cc in
         record { delimiter = is; rows = r; is = h; gives = sym same; room-for = subst (λ (x : Told). length (x .cells) ≤ room) same l }
 
-pub reads-back : (d : ℕ) (s : List ℕ) (room : ℕ) (t : Told) → Taken d s room t → readReport d s room ≡ done t
+reads-back : (d : ℕ) (s : List ℕ) (room : ℕ) (t : Told) → ReadAs d s room t → readReport d s room ≡ done t
 reads-back d s room t h =
     let same = h .gives in
     read-report-exactly d s room .1 (done (told d (h .rows))) (report-read (h .rows) (h .delimiter) (h .is) (subst (λ (x : Told). length (x .cells) ≤ room) same (h .room-for)))
     ∙ ap done (sym same)
+
+pub read-exactly : (d : ℕ) (s : List ℕ) (room : ℕ) (t : Told) → readReport d s room ≡ done t ↔ ReadAs d s room t
+read-exactly d s room t = (reads-as d s room t, reads-back d s room t)
 
 -- rows that fit are written, and what is written is read as these rows: the parts of the text that are told are the parts of the source that were given
 pub rows-to-text-to-rows : (d : ℕ) → isDelimiter d ≡ true → (source cells : List ℕ) (many : ℕ) (r : Rows) → Given source cells many r → (room lent : ℕ)
@@ -143,7 +140,7 @@ rows-to-text-to-rows d is source cells many r g room lent enough lent-enough =
 pub text-to-rows-to-text : (d : ℕ) (s : List ℕ) (lent : ℕ) (t : Told) → readReport d s lent ≡ done t → (room : ℕ) → length s ≤ room
     → written s (t .cells) (t .columns) d room ≡ done s
 text-to-rows-to-text d s lent t e room enough =
-    let h = read-exactly d s lent t e in
+    let h = reads-as d s lent t e in
     let r = h .rows in
     let text : reportText d r ≡ s = sym (h .is .is) in
     let given : Given s (told d r .cells) (told d r .columns) r = record { fits = h .is .fits; as-many = refl; parts = report-parts d r s (h .is) } in

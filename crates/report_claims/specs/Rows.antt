@@ -33,3 +33,11 @@ pub data WriteReportRow (source cells : List ℕ) (many d room : ℕ) : Result (
       → WriteReportRow source cells many d room (refused tooLittleRoom 0)
   report-written : (r : Rows) → isDelimiter d ≡ true → Given source cells many r → length (reportText d r) ≤ room
       → WriteReportRow source cells many d room (done (reportText d r))
+
+-- The text is the report of some rows, what is told of it is what is told of these, and there is room for that.
+pub record ReadAs (d : ℕ) (text : List ℕ) (room : ℕ) (t : Told) : Type 0 where
+  pub delimiter : isDelimiter d ≡ true
+  pub rows : Rows
+  pub is : Report d rows text
+  pub gives : t ≡ told d rows
+  pub room-for : length (t .cells) ≤ room
