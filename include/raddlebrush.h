@@ -22,7 +22,7 @@ extern "C" {
 
 /* ---- the version: one more with each change of a name, a type, a number or a size of this header */
 
-#define RB_VERSION 2u
+#define RB_VERSION 3u
 
 /* The version of the archive. */
 uint32_t rb_version(void);
@@ -43,7 +43,7 @@ typedef uint64_t rb_result;
 #define RB_REFUSAL_UNEXPECTED 4u          /* a token, or the end of file, that no legal file has after the tokens before it */
 #define RB_REFUSAL_NOT_REAL 5u            /* a time or date that is not a real one */
 #define RB_REFUSAL_TOO_MANY_STATEMENTS 6u /* any token after 64 statements */
-#define RB_REFUSAL_NOT_A_RECORD 7u        /* record field out of range, or bytes that are not a record */
+#define RB_REFUSAL_NOT_A_RECORD 7u        /* record field out of range, bytes that are not a record, or a line that no report has */
 #define RB_REFUSAL_TOO_LITTLE_ROOM 8u     /* lent output too short for the whole answer */
 #define RB_REFUSAL_ALL_TAKEN 9u           /* every session number taken */
 #define RB_REFUSAL_NOT_THE_ONE 10u        /* ticket, program or command isn't the one this call may name now */
@@ -55,7 +55,8 @@ typedef uint64_t rb_result;
 /* The number of a refusal; RB_DONE where there is none. */
 static inline uint32_t rb_refusal_number(rb_result result) { return (uint32_t)(result & 255u); }
 
-/* The place of a refusal: for a job file with the numbers 3 to 6 a byte of the file, or its length for the end; 0 for any other. */
+/* The place of a refusal: for a job file with the numbers 3 to 6 a byte of the file, or its length for the end; for a report that is read,
+ * with the number 7, the start of the line; 0 for any other. */
 static inline size_t rb_refusal_place(rb_result result) { return (size_t)(result >> 8); }
 
 /* A refusal's number in words, for a log. */
@@ -68,7 +69,7 @@ static inline const char *rb_refusal_text(uint32_t number) {
     case RB_REFUSAL_UNEXPECTED: return "this may not stand here";
     case RB_REFUSAL_NOT_REAL: return "no real date or time";
     case RB_REFUSAL_TOO_MANY_STATEMENTS: return "too many statements";
-    case RB_REFUSAL_NOT_A_RECORD: return "not a record";
+    case RB_REFUSAL_NOT_A_RECORD: return "not a record, or a line that no report has";
     case RB_REFUSAL_TOO_LITTLE_ROOM: return "too little room for the answer";
     case RB_REFUSAL_ALL_TAKEN: return "every session number is taken";
     case RB_REFUSAL_NOT_THE_ONE: return "not the ticket, program or command that is due";
@@ -88,6 +89,7 @@ static inline const char *rb_refusal_text(uint32_t number) {
 #define RB_MAX_SESSIONS 32u       /* of a table: its MaxSessions is 1 to 32 */
 #define RB_MAX_PROGRAM 8u         /* programs are 1 to 8 */
 #define RB_MAX_TEXT_BYTES 255u    /* the content of a string */
+#define RB_MAX_COLUMNS 64u        /* of a report */
 #define RB_MAX_CLASS 99u
 #define RB_MAX_CODE 99999999u
 #define RB_MAX_RECORD_BYTES 307u  /* ERROR, a number of two digits, a text of 255 bytes */
@@ -251,6 +253,40 @@ static inline rb_result rb_read_record(const uint8_t *bytes, size_t length, rb_r
     record->date = (uint32_t)numbers[6];
     record->time = (uint32_t)numbers[7];
     return RB_DONE;
+}
+
+/* ---- report files: a line of names, then none or more lines of as many values. Between two of a line stands the delimiter, which is a
+ * comma, a semicolon, a vertical bar or a tab, and each line is ended by CR LF. A name is a word that is not reserved, and a value is a
+ * number or a string, as in job files.
+ *
+ * The cells of a report are its names and then its values, in the order of the file, each as a part; a string has its quotes there. */
+
+/* The proved call behind rb_read_report: each cell as its place and its length. */
+rb_result rb_read_report_numbers(const uint8_t *file, size_t file_bytes, uint8_t delimiter, size_t *cells, size_t cell_numbers,
+                                 size_t *columns, size_t *lines);
+
+/* Reads a whole report file, and puts its cells into cells, the count of its columns into *columns, and the count of its lines of values
+ * into *lines: these are *columns * (*lines + 1) cells, and file_bytes / 2 are always enough. Cells beyond stay.
+ * RB_REFUSAL_OUT_OF_RANGE (delimiter); RB_REFUSAL_NOT_A_RECORD, at the start of the first line that does not fit;
+ * RB_REFUSAL_TOO_LITTLE_ROOM (cells).
+ * A part is two numbers of one type, so that nothing lies between them or after them: parts in a row are twice as many numbers in a row.
+ * They are numbers of the type by which the proved call reaches them, and no memory holds so many parts that their double is too large. */
+static inline rb_result rb_read_report(const uint8_t *file, size_t file_bytes, uint8_t delimiter, rb_part *cells, size_t cell_count,
+                                       size_t *columns, size_t *lines) {
+    return rb_read_report_numbers(file, file_bytes, delimiter, (size_t *)cells, 2 * cell_count, columns, lines);
+}
+
+/* The proved call behind rb_write_report: each cell as its place and its length. An odd count of numbers is no count of cells. */
+rb_result rb_write_report_numbers(const uint8_t *source, size_t source_bytes, const size_t *cells, size_t cell_numbers, size_t columns,
+                                  uint8_t delimiter, uint8_t *out, size_t out_bytes, size_t *used);
+
+/* Writes the report of these cells, which are parts of the source, at the start of out, and its length into *used: the sum of the cells'
+ * lengths, of one for each cell, and of one for each line.
+ * RB_REFUSAL_OUT_OF_RANGE (delimiter, columns); RB_REFUSAL_NOT_A_RECORD (no cells, a line that is not whole, a cell that is no part of the
+ * source, or not one name or one value); RB_REFUSAL_TOO_LITTLE_ROOM. Parts are handed on as numbers, as above. */
+static inline rb_result rb_write_report(const uint8_t *source, size_t source_bytes, const rb_part *cells, size_t cell_count,
+                                        size_t columns, uint8_t delimiter, uint8_t *out, size_t out_bytes, size_t *used) {
+    return rb_write_report_numbers(source, source_bytes, (const size_t *)cells, 2 * cell_count, columns, delimiter, out, out_bytes, used);
 }
 
 /* ---- names of session files */

@@ -11,7 +11,7 @@ use crate::reference::{plain, Refusal};
 
 /// What stands in a number before a call that may write it, and in a byte of room.
 const BEFORE: u64 = 77;
-const ROOM_BEFORE: u8 = 0x5A;
+pub const ROOM_BEFORE: u8 = 0x5A;
 
 /// The answer of a call that writes into room: what it returns, how many bytes it wrote, and the room at exit.
 pub fn written(answer: &Result<Vec<u8>, Refusal>, room: usize) -> Message {

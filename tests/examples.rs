@@ -1,5 +1,5 @@
-//! Document 01's checked examples, its traps, and the readings that docs/DECISIONS.md names: with the numbers written out, so that the
-//! reference is held against 01 too. Then the library is asked the same.
+//! Document 01's checked examples, its traps, and the readings that docs/DECISIONS.md names, P1's among them: with the numbers written
+//! out, so that the reference is held against the documents too. Then the library is asked the same.
 
 use crate::calls::{expect_job, expect_name_read, expect_record_written, expect_statement};
 use crate::library::{returned, Library};
@@ -7,6 +7,8 @@ use crate::reference::calendar::{is_real_date, is_real_time};
 use crate::reference::job::{read_job, read_statement, Body, Start, Value};
 use crate::reference::name::read_name;
 use crate::reference::record::{write_record, Outcome, Record};
+use crate::reference::report::{read_report, write_report};
+use crate::reports::{expect_report_read, expect_report_written};
 
 /// A file with what is returned: 0, or number and place.
 fn job(l: &mut Library, file: &[u8], number: u64, place: u64) {
@@ -92,6 +94,155 @@ fn other_examples(l: &mut Library) -> usize {
     14
 }
 
+/// Copies of a field with semicolons between, as a line.
+fn line(field: &str, copies: usize) -> String {
+    vec![field; copies].join(";") + "\r\n"
+}
+
+fn reports_read(l: &mut Library) -> usize {
+    let (q255, q256) = ("q".repeat(255), "q".repeat(256));
+    let own = str::to_string;
+    let ab = |lines: &str| own("a;b\r\n") + lines;
+    let long = line("n", 1) + &line("1", 1).repeat(40_000);
+    // A file, how many numbers are lent for its cells, and what is returned: 0, or number and place.
+    let mut cases: Vec<(String, usize, u64, u64)> = vec![
+        (own(""), 12, 7, 0),
+        (ab(""), 4, 0, 0),
+        (ab(""), 3, 8, 0),
+        (ab(""), 0, 8, 0),
+        (ab("1;2\r\n"), 8, 0, 0),
+        (ab("1;2\r\n"), 7, 8, 0),
+        (ab("1;2\r\n3;\"4\"\r\n"), 12, 0, 0),
+        (ab("1;2\r\n3;4"), 12, 7, 10),
+        (ab("1;2\r\n3;4\r"), 12, 7, 10),
+        (ab("1;2\r\n3;4\n"), 12, 7, 10),
+        (ab("1;2\r\n3;4\r\n\r\n"), 12, 7, 15),
+        (ab("1;2\r\n3\r\n"), 0, 7, 10),
+        (ab("1;2;3\r\n3;4\r\n"), 12, 7, 5),
+        (ab("1;2;\r\n"), 12, 7, 5),
+        (ab(";1;2\r\n"), 12, 7, 5),
+        (ab("1;;2\r\n"), 12, 7, 5),
+        (ab("1; 2\r\n"), 12, 7, 5),
+        (ab("1,2\r\n"), 12, 7, 5),
+        (ab("1;b\r\n"), 12, 7, 5),
+        (ab("-0;007\r\n2.50;20240431\r\n"), 12, 0, 0),
+        (ab("1;08:00:00\r\n"), 12, 7, 5),
+        (ab("1;5.\r\n"), 12, 7, 5),
+        (ab("1;-\r\n"), 12, 7, 5),
+        (ab("9999999999999999;-0.000000000000001\r\n"), 12, 0, 0),
+        (ab("1;10000000000000000\r\n"), 12, 7, 5),
+        (ab("\";\";\"\"\r\n"), 12, 0, 0),
+        (ab("\"1;2\r\n"), 12, 7, 5),
+        (ab("1;\"2\"\"3\"\r\n"), 12, 7, 5),
+        (ab("1;\"2\"3\r\n"), 12, 7, 5),
+        (ab("1;\"2\t3\"\r\n"), 12, 7, 5),
+        (ab("1;\"2\r\n3\"\r\n"), 12, 7, 5),
+        (ab(&format!("1;\"{q255}\"\r\n")), 12, 0, 0),
+        (ab(&format!("1;\"{q256}\"\r\n")), 12, 7, 5),
+        (format!("a;{q255}\r\n1;2\r\n"), 12, 0, 0),
+        (format!("a;{q256}\r\n1;2\r\n"), 12, 7, 0),
+        (own("a;a\r\n"), 12, 0, 0),
+        (own("a;TIMES;JOB_1\r\n"), 12, 0, 0),
+        (own("a;TIME>=\r\n"), 12, 7, 0),
+        (own("a;@b\r\n"), 12, 7, 0),
+        (own("a;1\r\n"), 12, 7, 0),
+        (own("a;\"b\"\r\n"), 12, 7, 0),
+        (own("a;b;\r\n"), 12, 7, 0),
+        (own("a;b"), 12, 7, 0),
+        (own("a;b\n"), 12, 7, 0),
+        (own("a;b\r"), 12, 7, 0),
+        (own("\r\n"), 12, 7, 0),
+        (own("\r\na;b\r\n"), 12, 7, 0),
+        (line("n", 64) + &line("1", 64), 256, 0, 0),
+        (line("n", 65) + &line("1", 65), 300, 7, 0),
+        (line("n", 64) + &line("1", 65), 300, 7, 129),
+        (line("n", 64) + &line("1", 63), 300, 7, 129),
+        (long.clone(), 80_002, 0, 0),
+        (long.clone(), 80_001, 8, 0),
+        (long + "x\r\n", 0, 7, 120_003),
+    ];
+    for word in "JOB RESPONSE UPLOAD DOWNLOAD GETINFO ABORT REPORT EVENT START STOP ACTIVE TIME IMMEDIATE NEVER".split(' ') {
+        cases.push((format!("a;{word}\r\n"), 12, 7, 0));
+        cases.push((format!("a;{}\r\n", word.to_lowercase()), 12, 0, 0));
+    }
+    for (file, lent, number, place) in &cases {
+        assert_eq!(returned(&read_report(file.as_bytes(), b';', *lent)), number + 256 * place, "{file}");
+        expect_report_read(l, file.as_bytes(), b';', *lent);
+        // The same with every other delimiter, where the file has it not yet and no string gets a tab.
+        for delimiter in [b',', b'|', b'\t'] {
+            if !file.contains(delimiter as char) && (delimiter != b'\t' || !file.contains("\";\"")) {
+                let other: Vec<u8> = file.bytes().map(|b| if b == b';' { delimiter } else { b }).collect();
+                assert_eq!(returned(&read_report(&other, delimiter, *lent)), number + 256 * place, "{file}");
+                expect_report_read(l, &other, delimiter, *lent);
+            }
+        }
+        assert_eq!(returned(&read_report(file.as_bytes(), b':', *lent)), 11);
+        expect_report_read(l, file.as_bytes(), b':', *lent);
+    }
+    cases.len()
+}
+
+fn reports_written(l: &mut Library) -> usize {
+    // 0: a, 1: B_1, 4: 2.50, 8: ";", 11: -0, 13: TIME, 17: 08:00:00, and the end at 25.
+    let source = b"aB_12.50\";\"-0TIME08:00:00";
+    const MOST: usize = usize::MAX;
+    let four: &[usize] = &[0, 1, 1, 3, 4, 4, 8, 3];
+    // Cells, columns, delimiter, room, and what is returned.
+    let cases: Vec<(&[usize], usize, u8, usize, u64)> = vec![
+        (four, 2, b';', 17, 0),
+        (four, 2, b';', 16, 8),
+        (four, 2, b'|', 18, 0),
+        (four, 2, b'\t', 18, 0),
+        (four, 2, b':', 18, 11),
+        (four, 0, b';', 18, 11),
+        (four, 65, b';', 18, 11),
+        (four, MOST, b';', 18, 11),
+        (four, 1, b';', 0, 7),
+        (four, 3, b';', 0, 7),
+        (four, 4, b';', 0, 7),
+        (&four[..7], 2, b';', 18, 7),
+        (&four[..6], 2, b';', 18, 7),
+        (&four[..4], 2, b';', 7, 0),
+        (&four[..2], 1, b';', 3, 0),
+        (&four[..1], 1, b';', 3, 7),
+        (&[], 1, b';', 3, 7),
+        (&[], 0, b';', 3, 11),
+        (&[0, 0], 1, b';', 9, 7),
+        (&[0, 2], 1, b';', 9, 0),
+        (&[0, 6], 1, b';', 9, 7),
+        (&[13, 4], 1, b';', 9, 7),
+        (&[14, 3], 1, b';', 9, 0),
+        (&[4, 1], 1, b';', 9, 7),
+        (&[0, 1, 4, 1], 1, b';', 9, 0),
+        (&[0, 1, 4, 2], 1, b';', 9, 7),
+        (&[0, 1, 5, 3], 1, b';', 9, 7),
+        (&[0, 1, 8, 2], 1, b';', 9, 7),
+        (&[0, 1, 11, 2], 1, b';', 9, 0),
+        (&[0, 1, 12, 1], 1, b';', 9, 0),
+        (&[0, 1, 11, 1], 1, b';', 9, 7),
+        (&[0, 1, 17, 8], 1, b';', 20, 7),
+        (&[0, 1, 17, 2], 1, b';', 20, 0),
+        (&[0, 1, 24, 1], 1, b';', 20, 0),
+        (&[0, 1, 24, 2], 1, b';', 20, 7),
+        (&[0, 1, 25, 0], 1, b';', 20, 7),
+        (&[0, 1, 25, 1], 1, b';', 20, 7),
+        (&[0, 1, MOST, 1], 1, b';', 20, 7),
+        (&[0, 1, MOST, 6], 1, b';', 20, 7),
+        (&[0, 1, 6, MOST], 1, b';', 20, 7),
+        (&[0, 1, MOST, MOST], 1, b';', 20, 7),
+        (&[MOST, 2], 1, b';', 20, 7),
+    ];
+    for (cells, columns, delimiter, room, number) in &cases {
+        assert_eq!(returned(&write_report(source, cells, *columns, *delimiter, *room)), *number, "{cells:?} {columns} {delimiter} {room}");
+        expect_report_written(l, source, cells, *columns, *delimiter, *room);
+    }
+    assert_eq!(write_report(source, four, 2, b';', 17).as_deref(), Ok(&b"a;B_1\r\n2.50;\";\"\r\n"[..]));
+    let same = [0, 1].repeat(64);
+    assert_eq!(write_report(source, &same, 64, b';', 129), Ok(line("a", 64).into_bytes()));
+    expect_report_written(l, source, &same, 64, b';', 129);
+    cases.len() + 1
+}
+
 pub fn all(l: &mut Library) -> usize {
-    job_examples(l) + other_examples(l)
+    job_examples(l) + other_examples(l) + reports_read(l) + reports_written(l)
 }

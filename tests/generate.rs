@@ -1,7 +1,8 @@
-//! Legal and damaged job files, records, names, numbers and session tables.
+//! Legal and damaged job files, records, reports, names, numbers and session tables.
 
 use crate::random::Random;
 use crate::reference::record::{record_bytes, Outcome, Record};
+use crate::reference::report::DELIMITERS;
 use crate::reference::table;
 use crate::reference::token::{OPERATORS, RESERVED};
 
@@ -225,7 +226,7 @@ fn damage_tokens(r: &mut Random, tokens: &mut Vec<Vec<u8>>) {
 }
 
 pub fn damage_bytes(r: &mut Random, bytes: &mut Vec<u8>) {
-    let b = if r.once_in(2) { r.pick(b"\" ;/=<>-.:_09aZ\r\n\t!\\") } else { r.below(256) as u8 };
+    let b = if r.once_in(2) { r.pick(b"\" ;,|/=<>-.:_09aZ\r\n\t!\\") } else { r.below(256) as u8 };
     let n = bytes.len();
     match r.below(4) {
         0 => bytes.truncate(r.below(n + 1)),
@@ -350,6 +351,151 @@ pub fn record_input(r: &mut Random) -> Vec<u8> {
         bytes.swap(r.below(n), r.below(n));
     }
     bytes
+}
+
+// ---- reports
+
+/// The names of a report, and then its lines of values.
+pub type Rows = Vec<Vec<Vec<u8>>>;
+
+/// Mostly few, often around the limit.
+fn column_count(r: &mut Random) -> usize {
+    match r.below(40) {
+        0 => 64,
+        1 => r.from(6, 64),
+        2 => 1,
+        _ => r.from(1, 5),
+    }
+}
+
+/// A string with delimiters and signs in it, at its edges too.
+fn delimited_text(r: &mut Random) -> Vec<u8> {
+    let content: Vec<u8> = (0..r.below(5)).map(|_| r.pick(b",;|,;| -.a0\xfe")).collect();
+    [b"\"", &content[..], b"\""].concat()
+}
+
+fn value(r: &mut Random) -> Vec<u8> {
+    match r.below(8) {
+        0..=2 => number_run(r),
+        3 => r.pick(&[b"-0" as &[u8], b"007", b"2.50", b"0", b"-0.0", b"9999999999999999", b"-0.000000000000001", b"20240431"]).to_vec(),
+        4 | 5 => delimited_text(r),
+        _ => quoted(r),
+    }
+}
+
+pub fn rows(r: &mut Random) -> Rows {
+    let columns = column_count(r);
+    let lines = if columns > 5 { r.below(3) } else { r.below(6) };
+    let names = (0..columns).map(|_| word(r)).collect();
+    let values = (0..lines).map(|_| (0..columns).map(|_| value(r)).collect());
+    [names].into_iter().chain(values).collect()
+}
+
+/// A field that stands in no report, or not everywhere.
+fn any_field(r: &mut Random) -> Vec<u8> {
+    match r.below(8) {
+        0 => vec![],
+        1 => word(r),
+        2 => value(r),
+        3 => [value(r), value(r)].concat(),
+        4 => [b" ", &value(r)[..]].concat(),
+        5 => [&value(r)[..], b" "].concat(),
+        _ => any_token(r),
+    }
+}
+
+pub fn damage_rows(r: &mut Random, rows: &mut Rows) {
+    let i = r.below(rows.len());
+    let j = r.below(rows[i].len().max(1));
+    match r.below(7) {
+        0 => drop(rows.remove(i)),
+        1 => rows.insert(i, vec![]),
+        2 if !rows[i].is_empty() => drop(rows[i].remove(j)),
+        3 => rows[i].insert(j, any_field(r)),
+        4 => rows.swap(0, i),
+        5 => {
+            let columns = r.pick(&[64, 65]);
+            for row in rows.iter_mut() {
+                let more = row.first().cloned().unwrap_or_default();
+                row.resize(columns, more);
+            }
+        }
+        _ if !rows[i].is_empty() => rows[i][j] = any_field(r),
+        _ => {}
+    }
+    if rows.is_empty() {
+        rows.push(vec![any_field(r)]);
+    }
+}
+
+/// The rows as a file.
+pub fn report_text(rows: &Rows, delimiter: u8) -> Vec<u8> {
+    rows.iter().flat_map(|row| [&row.join(&delimiter), &b"\r\n"[..]].concat()).collect()
+}
+
+/// A report file, or nearly one.
+pub fn report_file(r: &mut Random, delimiter: u8) -> Vec<u8> {
+    let mut rows = rows(r);
+    for _ in 0..r.pick(&[0, 0, 0, 1, 1, 2]) {
+        damage_rows(r, &mut rows);
+    }
+    let mut file = Vec::new();
+    for row in &rows {
+        let between = if r.once_in(30) { r.pick(&DELIMITERS) } else { delimiter };
+        file.extend(row.join(&between));
+        file.extend(if r.once_in(40) { r.pick(&[b"\n" as &[u8], b"\r", b"", b"\n\r", b"\r\r\n", b"\r\n\r\n", b" \r\n"]) } else { b"\r\n" });
+    }
+    for _ in 0..r.pick(&[0, 0, 0, 1, 1, 3]) {
+        damage_bytes(r, &mut file);
+    }
+    file
+}
+
+/// A source that holds the fields of the rows in any order with other bytes between, and the place and length of each field in it.
+pub fn scattered(r: &mut Random, rows: &Rows) -> (Vec<u8>, Vec<usize>) {
+    let fields = rows.concat();
+    let mut order: Vec<usize> = (0..fields.len()).collect();
+    for i in 1..order.len() {
+        order.swap(i, r.below(i + 1));
+    }
+    let mut source = Vec::new();
+    let mut numbers = vec![0; 2 * fields.len()];
+    for i in order {
+        source.extend((0..r.below(3)).map(|_| r.below(256) as u8));
+        numbers[2 * i] = source.len();
+        numbers[2 * i + 1] = fields[i].len();
+        source.extend(&fields[i]);
+    }
+    (source, numbers)
+}
+
+/// Changes the numbers of one cell, or their count.
+pub fn damage_cells(r: &mut Random, numbers: &mut Vec<usize>, source_bytes: usize) {
+    if numbers.len() < 2 {
+        return numbers.push(r.below(source_bytes + 2));
+    }
+    let i = r.below(numbers.len() / 2) * 2;
+    let end = numbers[i].wrapping_add(numbers[i + 1]);
+    match r.below(8) {
+        0 => drop(numbers.pop()),
+        1 => numbers.push(0),
+        2 => numbers.truncate(i),
+        3 => drop(numbers.drain(i..i + 2)),
+        4 => numbers[i + r.below(2)] = r.pick(&[0, 1, source_bytes, source_bytes + 1, usize::MAX, usize::MAX - 1, 1 << 63, 1 << 32]),
+        5 => {
+            let n = &mut numbers[i + r.below(2)];
+            *n = if r.once_in(2) { n.wrapping_add(1) } else { n.wrapping_sub(1) };
+        }
+        6 => {
+            // The sum of place and length is right where it is taken modulo 2^64.
+            numbers[i + 1] = r.pick(&[usize::MAX, usize::MAX - 1, 1 << 63]);
+            numbers[i] = end.wrapping_sub(numbers[i + 1]);
+        }
+        _ => {
+            let n = numbers.len();
+            numbers.swap(i, r.below(n));
+        }
+    }
 }
 
 // ---- names

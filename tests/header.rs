@@ -1,6 +1,6 @@
 //! Holds include/raddlebrush.h against the Rattle source: each exported call with the names, the number and the widths of its parameters,
-//! the three counts each with its type, each constant, and that each structure has a member for each number that its call writes, in the
-//! numbers' order. Run in the repository's root.
+//! the three counts each with its type, each constant, that each structure has a member for each number that its call writes, in the
+//! numbers' order, and that parts are handed on as twice as many numbers. Run in the repository's root.
 
 use std::collections::BTreeMap;
 use std::fs;
@@ -22,6 +22,10 @@ fn squeezed(text: &str) -> String {
 /// The counts of the header, and what each is a structure of.
 const COUNTS: [&str; 3] = ["rb_session_number", "rb_command_number", "rb_ticket"];
 const COUNT: &str = "uint32_t";
+
+/// What a part is, and the calls that hand parts on as numbers.
+const PART: &str = "typedef struct { size_t place, length; } rb_part;";
+const BY_PARTS: [&str; 2] = ["rb_read_report", "rb_write_report"];
 
 // ---- the Rattle side
 
@@ -148,6 +152,7 @@ fn source_name(header: &str) -> &str {
         "MAX_SESSIONS" => "SESSIONS",
         "MAX_PROGRAM" => "PROGRAMS",
         "MAX_TEXT_BYTES" => "TEXT_BYTES",
+        "MAX_COLUMNS" => "COLUMNS",
         "MAX_CLASS" => "CLASS_MOST",
         "MAX_CODE" => "CODE_MOST",
         "FILE_NAME_BYTES" => "NAME_BYTES",
@@ -182,13 +187,29 @@ fn filled(inline: &str) -> Vec<String> {
     by_number.into_iter().map(|(_, member)| member).collect()
 }
 
+/// Whether an inline function returns what the call behind it does: of its own parameters in their order, and twice the count of its parts.
+fn hands_on(name: &str, inline: &str) -> bool {
+    let (head, body) = inline.split_once(") {").unwrap();
+    let parameters = head.split_once('(').unwrap().1.split(',').map(squeezed);
+    let given: Vec<String> = parameters
+        .map(|p| {
+            let own = p.rsplit([' ', '*']).next().unwrap();
+            match p.strip_suffix(" *cells") {
+                Some(t) => format!("({} *)cells", t.replace("rb_part", "size_t")),
+                None => own.replace("cell_count", "2 * cell_count"),
+            }
+        })
+        .collect();
+    squeezed(body) == format!("return {name}_numbers({});", given.join(", "))
+}
+
 /// A parameter with the name left out where it is a length, a constant put in, and C's word for a class.
 fn header_parameter(p: &str, constants: &BTreeMap<String, u64>) -> String {
     let mut p = squeezed(p).replace("error_class", "class");
     for (name, value) in constants {
         p = p.replace(&format!("[RB_{name}]"), &format!("[{value}]"));
     }
-    if p.starts_with("size_t ") && !p.contains('*') && !["at", "quote"].iter().any(|n| p.ends_with(&format!(" {n}"))) { "size_t".into() } else { p }
+    if p.starts_with("size_t ") && !p.contains('*') && !["at", "quote", "columns"].iter().any(|n| p.ends_with(&format!(" {n}"))) { "size_t".into() } else { p }
 }
 
 fn header_calls(text: &str, constants: &BTreeMap<String, u64>) -> Calls {
@@ -234,6 +255,16 @@ fn main() {
     for name in COUNTS {
         if !header.contains(&format!("typedef struct {{ {COUNT} n; }} {name};")) {
             println!("{name} is not a structure of one {COUNT}");
+            faults += 1;
+        }
+    }
+    if !header.contains(PART) {
+        println!("rb_part is not a structure of a place and a length");
+        faults += 1;
+    }
+    for name in BY_PARTS {
+        if !hands_on(name, &inlines[name]) {
+            println!("{name} does not hand on what it is given, its parts as numbers");
             faults += 1;
         }
     }

@@ -77,6 +77,39 @@ static void names(void) {
     see("a session more", RB_REFUSAL_OUT_OF_RANGE, rb_write_file_name(last, RB_FILE_RESPONSE, RB_MAX_SESSIONS + 1, name, sizeof name, &used));
 }
 
+/* ---- reports */
+
+static void reports(void) {
+    rb_part cells[2 * (RB_MAX_COLUMNS + 1)];
+    uint8_t out[4 * (RB_MAX_COLUMNS + 1)];
+    size_t columns = 0, lines = 0, used = 0, n = 0, most = RB_MAX_COLUMNS, second = 2 * most + 1; /* where the second line begins */
+    see("a part is two numbers", 2 * sizeof(size_t), sizeof(rb_part));
+    see("its place is the first", 0, offsetof(rb_part, place));
+    see("its length is the second", sizeof(size_t), offsetof(rb_part, length));
+    for (uint32_t i = 0; i < RB_MAX_COLUMNS; i++) n = add(n, i ? ",n" : "n");
+    n = add(n, "\r\n");
+    for (uint32_t i = 0; i < RB_MAX_COLUMNS; i++) n = add(n, i ? ",1" : "1");
+    n = add(n, "\r\n");
+    see("a report of the most columns", RB_DONE, rb_read_report(file, n, ',', cells, 2 * most, &columns, &lines));
+    see("their count", RB_MAX_COLUMNS, columns);
+    see("the count of its lines", 1, lines);
+    see("its cells less one", RB_REFUSAL_TOO_LITTLE_ROOM, rb_read_report(file, n, ',', cells, 2 * most - 1, &columns, &lines));
+    see("it, written", RB_DONE, rb_write_report(file, n, cells, 2 * most, most, ',', out, n, &used));
+    see("its length", n, used);
+    see("its room less one", RB_REFUSAL_TOO_LITTLE_ROOM, rb_write_report(file, n, cells, 2 * most, most, ',', out, n - 1, &used));
+    cells[2 * most] = cells[2 * most - 1];
+    see("a cell more", RB_REFUSAL_NOT_A_RECORD, rb_write_report(file, n, cells, 2 * most + 1, most, ',', out, n, &used));
+    see("a column more, written", RB_REFUSAL_OUT_OF_RANGE, rb_write_report(file, n, cells, most + 1, most + 1, ',', out, n, &used));
+    see("no column, written", RB_REFUSAL_OUT_OF_RANGE, rb_write_report(file, n, cells, most, 0, ',', out, n, &used));
+    file[n - 2] = ',';
+    n = add(n - 1, "1\r\n");
+    rb_result no = rb_read_report(file, n, ',', cells, 2 * (most + 1), &columns, &lines);
+    see("a value more", RB_REFUSAL_NOT_A_RECORD, rb_refusal_number(no));
+    see("the start of its line", second, rb_refusal_place(no));
+    n = add(second - 2, ",n\r\n");
+    see("a name more", RB_REFUSAL_NOT_A_RECORD, rb_read_report(file, n, ',', cells, most + 1, &columns, &lines));
+}
+
 /* ---- tables */
 
 static uint8_t table[RB_TABLE_BYTES + 1], copy[RB_TABLE_BYTES];
@@ -130,6 +163,7 @@ int main(void) {
     jobs();
     records();
     names();
+    reports();
     tables();
     refusals();
     printf("%d facts of version, limits and refusals, %d unlike the archive\n", seen, faults);

@@ -7,19 +7,22 @@ mod generate;
 mod library;
 mod random;
 mod reference;
+mod reports;
 mod tables;
 
 use library::Library;
 use random::Random;
 
 /// The numbers that each call must have returned in a run, so that no refusal goes untried.
-const RETURNS: [(char, &[u64]); 14] = [
+const RETURNS: [(char, &[u64]); 16] = [
     ('J', &[0, 1, 2, 3, 4, 5, 6]),
     ('S', &[0, 1, 3, 4, 5, 11]),
     ('T', &[0, 1]),
     ('D', &[0, 1]),
     ('W', &[0, 5, 7, 8]),
     ('R', &[0, 7]),
+    ('P', &[0, 7, 8, 11]),
+    ('Q', &[0, 7, 8, 11]),
     ('N', &[0, 11]),
     ('O', &[0, 8, 11]),
     ('m', &[0, 11, 13]),
@@ -35,11 +38,13 @@ fn main() {
     let rounds: u64 = arguments[0].parse().expect("the number of rounds");
     let mut library = Library::start(&arguments[1..]);
     let examples = examples::all(&mut library);
+    reports::every_change(&mut library);
     for round in 1..=rounds {
         library.round(round);
         let mut r = Random::new(round);
         calls::round(&mut r, &mut library);
         tables::round(&mut r, &mut library);
+        reports::round(&mut r, &mut library);
         library.compare();
     }
     let mut untried = 0;
@@ -62,6 +67,8 @@ fn name(call: char) -> &'static str {
         'D' => "rb_is_real_date",
         'W' => "rb_write_record",
         'R' => "rb_read_record",
+        'P' => "rb_read_report",
+        'Q' => "rb_write_report",
         'N' => "rb_read_file_name",
         'O' => "rb_write_file_name",
         'm' => "rb_table_make",

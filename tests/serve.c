@@ -113,7 +113,7 @@ static void lent_out(struct lent *m) {
 
 #define U32 (uint32_t)number_in()
 
-static struct lent first, second, table, old;
+static struct lent first, second, third, table, old;
 
 /* What the last call on the table changed: rows of 16 bytes, each after its number. */
 static void changes_out(void) {
@@ -239,6 +239,42 @@ static void file_call(int call) {
     see_edges(&first);
 }
 
+/* The calls on reports are made with numbers, and then with the parts that these are, each of two numbers. */
+static void report_read(void) {
+    uint8_t *file = lend_in(&first), delimiter = (uint8_t)number_in();
+    size_t n = first.bytes, count = (size_t)number_in();
+    for (int parts = 0; parts < 2; parts++) {
+        void *cells = lend(&second, 8 * count);
+        size_t columns = 77, lines = 77;
+        memset(cells, 0x5A, second.bytes);
+        number_out(parts ? rb_read_report(file, n, delimiter, cells, count / 2, &columns, &lines)
+                         : rb_read_report_numbers(file, n, delimiter, cells, count, &columns, &lines));
+        number_out(columns);
+        number_out(lines);
+        lent_out(&second);
+    }
+    see_edges(&first);
+}
+
+static void report_written(void) {
+    uint8_t *source = lend_in(&first);
+    void *cells = lend_in(&second);
+    size_t n = first.bytes, count = second.bytes / 8, columns = (size_t)number_in();
+    uint8_t delimiter = (uint8_t)number_in();
+    size_t room = (size_t)number_in();
+    for (int parts = 0; parts < 2; parts++) {
+        uint8_t *bytes = lend(&third, room);
+        size_t used = 77;
+        memset(bytes, 0x5A, room);
+        number_out(parts ? rb_write_report(source, n, cells, count / 2, columns, delimiter, bytes, room, &used)
+                         : rb_write_report_numbers(source, n, cells, count, columns, delimiter, bytes, room, &used));
+        number_out(used);
+        lent_out(&third);
+    }
+    see_edges(&first);
+    see_edges(&second);
+}
+
 static void name_written(void) {
     uint64_t a[4];
     for (int i = 0; i < 4; i++) a[i] = number_in();
@@ -253,6 +289,8 @@ static void name_written(void) {
 static void answered(int call) {
     switch (call) {
     case 'm': case 'p': case 'u': case 'a': case 'c': case 'i': table_call(call); break;
+    case 'P': report_read(); break;
+    case 'Q': report_written(); break;
     case 'O': name_written(); break;
     case 'D': {
         uint32_t n = U32;

@@ -1,10 +1,11 @@
-//! Document 01 once more, in plain Rust: written from the document's sentences, and from nothing that is proved.
-//! It is meant to be read beside 01, not to be fast.
+//! Document 01, with P1 of 02, once more, in plain Rust: written from the documents' sentences, and from nothing that is proved.
+//! It is meant to be read beside them, not to be fast.
 
 pub mod calendar;
 pub mod job;
 pub mod name;
 pub mod record;
+pub mod report;
 pub mod table;
 pub mod token;
 
@@ -20,7 +21,7 @@ pub fn plain<T>(number: u32) -> Result<T, Refusal> {
     Err(Refusal { number, place: 0 })
 }
 
-/// A refusal at a place of a job file.
+/// A refusal at a place of a file.
 pub fn at<T>(number: u32, place: usize) -> Result<T, Refusal> {
     Err(Refusal { number, place })
 }
