@@ -43,15 +43,27 @@ static uint32_t program;
 static rb_ticket ticket;
 static rb_command_number command;
 
+#define REPORT_BYTES 10001000
+#define REPORT_CELLS 2000000
+static uint8_t report[REPORT_BYTES];
+static size_t report_bytes;
+static uint8_t delimiter;
+static rb_part cells[REPORT_CELLS]; /* what is written */
+static size_t cell_count, columns;
+
 static struct {
     rb_result returned;
     uint32_t offsets[64];
     rb_session_number number;
     rb_ticket ticket;
     rb_command_number command;
-    size_t count;
+    size_t count, lines;
     uint8_t out[4096];
 } left;
+
+/* What reading and writing a report leave: ours and theirs. */
+static rb_part left_cells[2][REPORT_CELLS];
+static uint8_t left_report[2][REPORT_BYTES];
 
 static void add(const char *s) {
     size_t n = strlen(s);
@@ -114,6 +126,71 @@ static void refused_late(void) {
     file[file_bytes - 3] = '!';
 }
 
+/* ---- reports */
+
+enum report_kind { MIXED, NUMBERS, STRINGS, NARROW, REFUSED };
+
+static uint32_t seed;
+
+static uint32_t below(uint32_t n) {
+    seed = seed * 1664525 + 1013904223;
+    return (uint32_t)(((uint64_t)seed * n) >> 32);
+}
+
+static void put_byte(uint8_t b) { report[report_bytes++] = b; }
+
+static void put_text(const char *s) {
+    while (*s) put_byte((uint8_t)*s++);
+}
+
+static void put_digits(uint32_t n) {
+    do put_byte((uint8_t)('0' + below(10)));
+    while (--n);
+}
+
+static void put_number(uint32_t whole, uint32_t fraction) {
+    if (fraction && !below(4)) put_byte('-');
+    put_digits(1 + below(whole));
+    if (fraction) put_byte('.'), put_digits(1 + below(fraction));
+}
+
+static void put_string(uint32_t shortest, uint32_t longest) {
+    put_byte('"');
+    for (uint32_t n = shortest + below(longest - shortest + 1); n; n--) put_byte((uint8_t)(below(8) ? 'a' + below(26) : (uint32_t)" ,;|"[below(4)]));
+    put_byte('"');
+}
+
+static void put_value(enum report_kind kind, size_t column) {
+    if (kind == NARROW) put_digits(1);
+    else if (kind == NUMBERS) put_number(8, column % 2 ? 4 : 0);
+    else if (kind == STRINGS) put_string(200, 255);
+    else if (column < 5) put_number(column < 2 ? 6 : 3, column < 2 ? 0 : 2);
+    else put_string(column == 7 ? 0 : 3, column == 7 ? 24 : 10);
+}
+
+/* A report of about that many bytes, with names and values of that kind. The last line of REFUSED has a value too many. */
+static void make_report(enum report_kind kind, size_t bytes) {
+    static const char *const names[] = {"lot", "ActCntCyc", "weight", "drift", "SetTmpNoz", "part", "shift_leader", "remark"};
+    static enum report_kind made_kind;
+    static size_t made_bytes;
+    if (made_kind == kind && made_bytes == bytes) return;
+    made_kind = kind;
+    made_bytes = bytes;
+    seed = 17;
+    report_bytes = 0;
+    columns = kind == NARROW ? 64 : 8;
+    delimiter = (uint8_t)";,|\t;"[kind];
+    for (size_t i = 0; i < columns; i++) put_text(names[i % 8]), put_byte(i + 1 < columns ? delimiter : 13);
+    put_byte(10);
+    while (report_bytes < bytes) {
+        for (size_t i = 0; i < columns; i++) put_value(kind, i), put_byte(i + 1 < columns ? delimiter : 13);
+        put_byte(10);
+    }
+    if (kind == REFUSED) report_bytes -= 2, put_byte(delimiter), put_text("1\r\n");
+    size_t lines;
+    if (!plain_read_report(report, report_bytes, delimiter, cells, REPORT_CELLS, &columns, &lines)) cell_count = columns * (lines + 1);
+}
+
 /* ---- session tables */
 
 static void put(size_t row, uint32_t a, uint32_t b, uint32_t c, uint32_t d) {
@@ -154,12 +231,14 @@ static void sessions(uint32_t n, uint32_t count, uint32_t answered, bool last_st
 
 /* ---- the calls of each side */
 
-enum call { READ, WRITE, PLACE, TAKE_UP, ANSWER, COLLECT };
+enum call { READ, WRITE, READ_REPORT, WRITE_REPORT, PLACE, TAKE_UP, ANSWER, COLLECT };
 
 static void ours(enum call call) {
     switch (call) {
     case READ: left.returned = rb_read_job(file, file_bytes, left.offsets, 64, &left.count); break;
     case WRITE: left.returned = rb_write_record((rb_command_number){17}, outcome, 7, 120045, text, text_bytes, 20240430, 60000, left.out, 400, &left.count); break;
+    case READ_REPORT: left.returned = rb_read_report(report, report_bytes, delimiter, left_cells[0], REPORT_CELLS, &left.count, &left.lines); break;
+    case WRITE_REPORT: left.returned = rb_write_report(report, report_bytes, cells, cell_count, columns, delimiter, left_report[0], REPORT_BYTES, &left.count); break;
     case PLACE: left.returned = rb_table_place(table, sizeof table, 5, 12, &left.number, &left.ticket); restore(); break;
     case TAKE_UP: left.returned = rb_table_take_up(table, sizeof table, &left.number, &left.ticket, &left.command); restore(); break;
     case ANSWER: left.returned = rb_table_answer(table, sizeof table, ticket, command, 1, 7, 120045, 20240430, 60000); restore(); break;
@@ -171,6 +250,8 @@ static void theirs(enum call call) {
     switch (call) {
     case READ: left.returned = plain_read_job(file, file_bytes, left.offsets, 64, &left.count); break;
     case WRITE: left.returned = plain_write_record(17, outcome, 7, 120045, text, text_bytes, 20240430, 60000, left.out, 400, &left.count); break;
+    case READ_REPORT: left.returned = plain_read_report(report, report_bytes, delimiter, left_cells[1], REPORT_CELLS, &left.count, &left.lines); break;
+    case WRITE_REPORT: left.returned = plain_write_report(report, report_bytes, cells, cell_count, columns, delimiter, left_report[1], REPORT_BYTES, &left.count); break;
     case PLACE: left.returned = plain_place(table, sizeof table, 5, 12, &left.number.n, &left.ticket.n); restore(); break;
     case TAKE_UP: left.returned = plain_take_up(table, sizeof table, &left.number.n, &left.ticket.n, &left.command.n); restore(); break;
     case ANSWER: left.returned = plain_answer(table, sizeof table, ticket.n, command.n, 1, 7, 120045, 20240430, 60000); restore(); break;
@@ -200,6 +281,9 @@ static void new_case(const char *name, enum call call, int kind, int size) {
 static void all_cases(void) {
     static const char *const reads[] = {"read/short", "read/typical", "read/64-statements", "read/long-strings", "read/comments",
                                         "read/refused-early", "read/refused-late"};
+    static const struct { const char *name; enum report_kind kind; int bytes; } reports[] = {
+        {"10KB", MIXED, 10000}, {"100KB", MIXED, 100000}, {"1MB", MIXED, 1000000}, {"10MB", MIXED, 10000000},
+        {"numbers", NUMBERS, 1000000}, {"strings", STRINGS, 1000000}, {"narrow", NARROW, 1000000}, {"refused-late", REFUSED, 1000000}};
     static const char *const calls[] = {"place", "take-up", "answer", "collect"};
     char name[40];
     for (int i = 0; i < 7; i++) new_case(reads[i], READ, i, 0);
@@ -213,6 +297,10 @@ static void all_cases(void) {
         sprintf(name, "write-growth/%d", n < 255 ? n : 255);
         new_case(name, WRITE, 1, n < 255 ? n : 255);
     }
+    for (int i = 0; i < 15; i++) { /* what is refused is not written */
+        sprintf(name, "%s/%s", i < 8 ? "read-report" : "write-report", reports[i % 8].name);
+        new_case(name, i < 8 ? READ_REPORT : WRITE_REPORT, (int)reports[i % 8].kind, reports[i % 8].bytes);
+    }
     for (int c = 0; c < 4; c++) {
         sprintf(name, "%s/empty", calls[c]);
         new_case(name, (enum call)(PLACE + c), 1, 1);
@@ -225,7 +313,10 @@ static void all_cases(void) {
     }
 }
 
-static int bytes_of(const struct measured *c) { return c->call == READ ? (int)file_bytes : c->size; }
+static int bytes_of(const struct measured *c) {
+    if (c->call == READ_REPORT || c->call == WRITE_REPORT) return (int)report_bytes;
+    return c->call == READ ? (int)file_bytes : c->size;
+}
 
 static void set_up(const struct measured *c) {
     uint32_t count = (uint32_t)c->kind, n = (uint32_t)c->size;
@@ -246,6 +337,8 @@ static void set_up(const struct measured *c) {
         text_bytes = (size_t)c->size;
         memset(text, 't', sizeof text);
         break;
+    case READ_REPORT:
+    case WRITE_REPORT: make_report((enum report_kind)c->kind, (size_t)c->size); break;
     case PLACE: sessions(n, count, 0, false, false); break;
     case TAKE_UP: sessions(n, count, count - 1, true, false); break;
     case ANSWER: sessions(n, count, count - 1, true, true); break;
@@ -260,7 +353,10 @@ static void compare(const struct measured *c) {
     memcpy(first, &left, sizeof left);
     set_up(c);
     theirs(c->call);
-    if (memcmp(first, &left, sizeof left)) {
+    bool differ = memcmp(first, &left, sizeof left);
+    if (c->call == READ_REPORT) differ |= memcmp(left_cells[0], left_cells[1], sizeof cells) != 0;
+    if (c->call == WRITE_REPORT) differ |= memcmp(left_report[0], left_report[1], sizeof report) != 0;
+    if (differ) {
         printf("%s: the two sides differ: %u and %u\n", c->name, first[0], rb_refusal_number(left.returned));
         exit(1);
     }
@@ -268,7 +364,7 @@ static void compare(const struct measured *c) {
 
 static double time_of(enum call call, void (*side)(enum call)) {
     double best = 1e18;
-    for (int try = 0, n = 16; try < 7;) {
+    for (int try = 0, n = 1; try < 7;) {
         double a = now();
         for (int i = 0; i < n; i++) side(call);
         double t = now() - a;

@@ -1,7 +1,9 @@
-/* The record writer with snprintf, and the session table as structs over the same bytes, with the same checks. */
+/* The record writer with snprintf, reports byte by byte, and the session table as structs over the same bytes, with the same checks. */
 #include "plain.h"
 
 int snprintf(char *, unsigned long, const char *, ...);
+int memcmp(const void *, const void *, unsigned long);
+unsigned long strlen(const char *);
 void *memcpy(void *, const void *, unsigned long);
 void *memset(void *, int, unsigned long);
 
@@ -45,6 +47,131 @@ uint32_t plain_write_record(uint32_t number, uint32_t outcome, uint32_t error_cl
     *written = n;
     return 0;
 }
+
+/* ---- report files. A place after something is NULL where that does not stand. */
+
+static bool is_digit(uint8_t b) { return b >= '0' && b <= '9'; }
+
+static bool is_letter(uint8_t b) { return (b >= 'A' && b <= 'Z') || (b >= 'a' && b <= 'z'); }
+
+static bool is_delimiter(uint8_t b) { return b == ',' || b == ';' || b == '|' || b == '\t'; }
+
+static bool is_reserved(const uint8_t *word, size_t n) {
+    static const char *const reserved[] = {"JOB", "RESPONSE", "UPLOAD", "DOWNLOAD", "GETINFO", "ABORT", "REPORT",
+                                           "EVENT", "START", "STOP", "ACTIVE", "TIME", "IMMEDIATE", "NEVER"};
+    for (size_t i = 0; i < sizeof reserved / sizeof *reserved; i++)
+        if (strlen(reserved[i]) == n && !memcmp(reserved[i], word, n)) return true;
+    return false;
+}
+
+static const uint8_t *after_name(const uint8_t *start, const uint8_t *limit) {
+    const uint8_t *p = start;
+    if (p == limit || !is_letter(*p)) return NULL;
+    while (p < limit && (is_letter(*p) || is_digit(*p) || *p == '_')) p++;
+    return p - start <= 255 && !is_reserved(start, (size_t)(p - start)) ? p : NULL;
+}
+
+static const uint8_t *after_digits(const uint8_t *p, const uint8_t *limit) {
+    while (p < limit && is_digit(*p)) p++;
+    return p;
+}
+
+static const uint8_t *after_number(const uint8_t *p, const uint8_t *limit) {
+    if (p < limit && *p == '-') p++;
+    const uint8_t *end = after_digits(p, limit);
+    if (end == p || end - p > 16) return NULL;
+    if (end == limit || *end != '.') return end;
+    const uint8_t *fraction = end + 1;
+    end = after_digits(fraction, limit);
+    return end != fraction && end - p <= 17 ? end : NULL;
+}
+
+static const uint8_t *after_string(const uint8_t *quote, const uint8_t *limit) {
+    const uint8_t *p = quote + 1;
+    while (p < limit && *p >= 32 && *p != 34 && *p != 255) p++;
+    return p < limit && *p == 34 && p - quote <= 256 ? p + 1 : NULL;
+}
+
+static const uint8_t *after_field(const uint8_t *p, const uint8_t *limit, bool values) {
+    if (!values) return after_name(p, limit);
+    return p < limit && *p == 34 ? after_string(p, limit) : after_number(p, limit);
+}
+
+static const uint8_t *after_line(const uint8_t *p, const uint8_t *limit, uint8_t delimiter, bool values, size_t *fields) {
+    for (*fields = 1;; ++*fields) {
+        p = after_field(p, limit, values);
+        if (!p || p == limit) return NULL;
+        if (*p != delimiter) break;
+        p++;
+    }
+    return limit - p >= 2 && p[0] == 13 && p[1] == 10 ? p + 2 : NULL;
+}
+
+/* The cells of a file that is known to be a report: only quotes, delimiters and the ends of lines are looked for. */
+static void fill(const uint8_t *file, uint8_t delimiter, rb_part *cells, size_t count) {
+    const uint8_t *p = file;
+    for (size_t i = 0; i < count; i++) {
+        const uint8_t *start = p;
+        if (*p == 34) {
+            do p++;
+            while (*p != 34);
+            p++;
+        } else {
+            while (*p != delimiter && *p != 13) p++;
+        }
+        cells[i] = (rb_part){(size_t)(start - file), (size_t)(p - start)};
+        p += *p == 13 ? 2 : 1;
+    }
+}
+
+rb_result plain_read_report(const uint8_t *file, size_t n, uint8_t delimiter, rb_part *cells, size_t cell_count, size_t *columns,
+                            size_t *lines) {
+    const uint8_t *limit = file + n;
+    size_t names, values, count = 0;
+    if (!is_delimiter(delimiter)) return 11;
+    const uint8_t *p = after_line(file, limit, delimiter, false, &names);
+    if (!p || names > 64) return 7;
+    for (; p < limit; count++) {
+        const uint8_t *next = after_line(p, limit, delimiter, true, &values);
+        if (!next || values != names) return 256 * (rb_result)(p - file) + 7;
+        p = next;
+    }
+    if (names * (count + 1) > cell_count) return 8;
+    fill(file, delimiter, cells, names * (count + 1));
+    *columns = names;
+    *lines = count;
+    return 0;
+}
+
+rb_result plain_write_report(const uint8_t *source, size_t n, const rb_part *cells, size_t cell_count, size_t columns, uint8_t delimiter,
+                             uint8_t *out, size_t room, size_t *used) {
+    if (!is_delimiter(delimiter) || columns < 1 || columns > 64) return 11;
+    if (cell_count == 0 || cell_count % columns) return 7;
+    size_t needed = cell_count + cell_count / columns;
+    for (size_t i = 0; i < cell_count; i++) {
+        if (cells[i].place > n || cells[i].length > n - cells[i].place) return 7;
+        const uint8_t *start = source + cells[i].place, *end = start + cells[i].length;
+        if (after_field(start, end, i >= columns) != end) return 7;
+        needed += cells[i].length;
+    }
+    if (needed > room) return 8;
+    uint8_t *p = out;
+    for (size_t i = 0, left = columns; i < cell_count; i++) {
+        memcpy(p, source + cells[i].place, cells[i].length);
+        p += cells[i].length;
+        if (--left) {
+            *p++ = delimiter;
+        } else {
+            *p++ = 13;
+            *p++ = 10;
+            left = columns;
+        }
+    }
+    *used = needed;
+    return 0;
+}
+
+/* ---- the session table */
 
 struct entry {
     uint32_t kind, code, date, time;
