@@ -20,13 +20,13 @@ use Rattle.record.specs.Record.{recordBytes}
 use Rattle.calendar.specs.Calendar.{februaryLength, monthLength, realDate, realTime}
 use Rattle.session_name.specs.Name.{kindRead, numberRead, nameRead}
 use Rattle.delimited.specs.Separators.{separatorAt}
-use Rattle.report.specs.Reading.{nameAt, valueAt, fieldAt, cellAt, fieldsFrom, lineAt, linesFrom, judged, cellsFrom, readReport}
+use Rattle.report.specs.Reading.{nameAt, figuresAt, numeralAt, stringEnd, valueAt, fieldAt, cellAt, fieldsFrom, lineAt, linesFrom, judged, cellsFrom, readReport}
 use Rattle.report_write.specs.Writing.{isField, isCell, areLines, textFrom, mayWrite, writeRefusal, written}
 use Rattle.claims.specs.Examples.{Row, examples, allHold}
 
 -- The one test. A row that leans on a new word has the word added to this line.
 pub examples-hold : allHold examples ≡ true
-unfolding examples allHold februaryLength monthLength realDate realTime part same hasAt digits value allDigits widthFrom plainWidth plain digitsRead kindRead numberRead nameRead run runEnd blank blankEnd stringAt isTextAt isTimeAt isNumberAt shapedAt numericAt signAt tokenAt nextToken whichWord wordRead numberClass dateNumber timeNumber itemOf nextItem lineFrom line read readJob digitsOf scaleOf numberOf momentBytes recordBytes separatorAt nameAt valueAt fieldAt cellAt fieldsFrom lineAt linesFrom judged cellsFrom readReport isField isCell areLines textFrom mayWrite writeRefusal written
+unfolding examples allHold februaryLength monthLength realDate realTime part same hasAt digits value allDigits widthFrom plainWidth plain digitsRead kindRead numberRead nameRead run runEnd blank blankEnd stringAt isTextAt isTimeAt isNumberAt shapedAt numericAt signAt tokenAt nextToken whichWord wordRead numberClass dateNumber timeNumber itemOf nextItem lineFrom line read readJob digitsOf scaleOf numberOf momentBytes recordBytes separatorAt nameAt figuresAt numeralAt stringEnd valueAt fieldAt cellAt fieldsFrom lineAt linesFrom judged cellsFrom readReport isField isCell areLines textFrom mayWrite writeRefusal written
 examples-hold = refl
 
 -- so each row holds

@@ -37,7 +37,7 @@ pointed w [] h = absurd (omega arith)
 pointed w (x ∷ f) h = refl
 
 -- a numeral, whatever its parts
-record Some (bs : List ℕ) (minus : Bool) : Type 0 where
+pub record Some (bs : List ℕ) (minus : Bool) : Type 0 where
   pub whole : List ℕ
   pub after : List ℕ
   pub numeral : Numeral bs minus whole after
@@ -53,7 +53,7 @@ module _ (s : List ℕ) where
   some-digits d h = run-some isDigit s d (in-range s d isDigit d refl h) h
 
   -- without a point
-  whole-number : (d e : ℕ) → isDigit (getD s d 0) ≡ true → e ≤ length s → runEnd isDigit s d ≡ e → e ≤ d + 16 → Some (part s d (e - d)) false
+  pub whole-number : (d e : ℕ) → isDigit (getD s d 0) ≡ true → e ≤ length s → runEnd isDigit s d ≡ e → e ≤ d + 16 → Some (part s d (e - d)) false
   unfolding allDigits
   whole-number d e digit room end few =
       let l : length (part s d (e - d)) ≡ e - d = length-part-in s d (e - d) (omega (arith, some-digits d digit)) in
@@ -70,7 +70,7 @@ module _ (s : List ℕ) where
       }
 
   -- with a point at m
-  pointed-number : (d m e : ℕ) → isDigit (getD s d 0) ≡ true → e ≤ length s → runEnd isDigit s d ≡ m → getD s m 0 ≡ 46 → isDigit (getD s (m + 1) 0) ≡ true
+  pub pointed-number : (d m e : ℕ) → isDigit (getD s d 0) ≡ true → e ≤ length s → runEnd isDigit s d ≡ m → getD s m 0 ≡ 46 → isDigit (getD s (m + 1) 0) ≡ true
       → runEnd isDigit s (m + 1) ≡ e → e ≤ d + 16 + 1 → Some (part s d (e - d)) false
   pointed-number d m e digit room mid point next end few =
       let start : d < m = omega (arith, some-digits d digit) in
@@ -126,7 +126,7 @@ module _ (s : List ℕ) where
           (eqb-true _ e (and-right (point && next) end q3)) (leb-true e (d + 16 + 1) (and-right (point && next && end) few q))
 
   -- with a sign
-  signed-number : (i e : ℕ) → getD s i 0 ≡ 45 → i < e → e ≤ length s → Some (part s (i + 1) (e - (i + 1))) false → Some (part s i (e - i)) true
+  pub signed-number : (i e : ℕ) → getD s i 0 ≡ 45 → i < e → e ≤ length s → Some (part s (i + 1) (e - (i + 1))) false → Some (part s i (e - i)) true
   signed-number i e minus more room n =
       let k : e - i ≡ suc (e - (i + 1)) = omega arith in
       record {

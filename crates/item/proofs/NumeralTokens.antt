@@ -24,10 +24,10 @@ use Rattle.token.proofs.Ahead.{numeric-byte}
 
 -- ---- the bytes of a numeral
 
-digit-range : (b : ℕ) → isDigit b ≡ true → (48 ≤ b) × (b ≤ 57)
+pub digit-range : (b : ℕ) → isDigit b ≡ true → (48 ≤ b) × (b ≤ 57)
 digit-range b h = (leb-true 48 b (and-left (leb 48 b) (leb b 57) h), leb-true b 57 (and-right (leb 48 b) (leb b 57) h))
 
-digit-each : (ds : List ℕ) → allDigits ds ≡ true → (b : ℕ) → List·Memᴰ b ds → isDigit b ≡ true
+pub digit-each : (ds : List ℕ) → allDigits ds ≡ true → (b : ℕ) → List·Memᴰ b ds → isDigit b ≡ true
 unfolding allDigits
 digit-each [] h b m = absurd (List·Memᴰ·not-nil m)
 digit-each (d ∷ ds) h b m =
@@ -169,18 +169,18 @@ no-time s i b l low stands long = go (isTimeAt s i b) refl
 
 -- ---- the token, by its first byte
 
-first-digit : (s : List ℕ) (d : ℕ) (w f rest : List ℕ) → allDigits w ≡ true → 1 ≤ length w → drop d s ≡ unsigned w f ++ rest → isDigit (getD s d 0) ≡ true
+pub first-digit : (s : List ℕ) (d : ℕ) (w f rest : List ℕ) → allDigits w ≡ true → 1 ≤ length w → drop d s ≡ unsigned w f ++ rest → isDigit (getD s d 0) ≡ true
 first-digit s d [] f rest h some e = absurd (omega arith)
 first-digit s d (y ∷ w) [] rest h some e = rw (head-at s d y (w ++ rest) e) (digit-each (y ∷ w) h y (List·Memᴰ·head refl))
 first-digit s d (y ∷ w) (x ∷ f) rest h some e =
     rw (head-at s d y ((w ++ (46 ∷ (x ∷ f))) ++ rest) e) (digit-each (y ∷ w) h y (List·Memᴰ·head refl))
 
-no-letter : (b : ℕ) → isDigit b ≡ true → isLetter b ≡ false
+pub no-letter : (b : ℕ) → isDigit b ≡ true → isLetter b ≡ false
 no-letter b h =
     let r = digit-range b h in
     rw (lt-leb 65 b (omega arith), lt-leb 97 b (omega arith))
 
-no-minus : (b : ℕ) → isDigit b ≡ true → eqb b 45 ≡ false
+pub no-minus : (b : ℕ) → isDigit b ≡ true → eqb b 45 ≡ false
 no-minus b h = ne-eqb b 45 (λ e. omega (arith, digit-range b h))
 
 by-digit : (s : List ℕ) (i : ℕ) → i < length s → isDigit (getD s i 0) ≡ true → tokenAt s i ≡ shapedAt s i i

@@ -5,11 +5,9 @@ use mathlib.Core.Bool.{Bool, true, false, cond}
 use mathlib.Core.List.{List, [], _∷_, _++_}
 use native.Mathlib.Nat.{mul-le-mul-right}
 use native.Mathlib.Omega.{arith}
-use borrow.Author.Tests.{le-ltb}
 use lib.ListN.{length, getD, drop, length-append, length-drop, List·getD-eq-default}
 use Rattle.field.proofs.Parts.{rest-is}
 use Rattle.scan.specs.Kinds.{isLetter}
-use Rattle.token.specs.Token.{tokenAt}
 use Rattle.delimited.specs.Lines.{isDelimiter, separator, others, line, lines, placesOf, cellsOf, Each, none, and}
 use Rattle.delimited.proofs.Found.{at-field, at-line}
 use Rattle.delimited.proofs.Lines.{line-some, line-long, each-so, length-cells, lines-long}
@@ -18,13 +16,13 @@ use Rattle.report.specs.Reading.{nameAt, valueAt, fieldAt, cellAt, cells
 use Rattle.report.specs.declared.FieldRead.the-variants.{End, NoField}
 use Rattle.report.specs.declared.Judged.{Judged}
 use Rattle.report.specs.declared.Judged.the-variants.{Whole, BreaksAt}
-use Rattle.report.proofs.Fields.{Field, field-some, field-found, field-cell}
+use Rattle.report.proofs.Fields.{Field, field-some, field-found, field-cell, no-value-past}
 use Rattle.report.proofs.Lines.{field-in-line}
 use Rattle.report.proofs.Reports.{Judgement, taken, broken, judged-so}
 
 pub no-cell-past : (s : List ℕ) (i : ℕ) → length s ≤ i → cellAt s i ≡ NoField
-unfolding cellAt valueAt tokenAt
-no-cell-past s i h = rw (List·getD-eq-default s 0 h, le-ltb i (length s) h)
+unfolding cellAt
+no-cell-past s i h = rw (List·getD-eq-default s 0 h) (no-value-past s i h)
 
 pub cells-past : (n d : ℕ) (s : List ℕ) (i : ℕ) → length s ≤ i → cellsFrom n d s i ≡ []
 unfolding cellsFrom

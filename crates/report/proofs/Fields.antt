@@ -4,12 +4,13 @@ use mathlib.Core.Path.{_≡_, refl, sym, _∙_, ap}
 use mathlib.Core.Bool.{Bool, true, false, false≢true, cond}
 use mathlib.Core.List.{List, [], _∷_, _++_, append-assoc}
 use native.Mathlib.Omega.{arith}
-use borrow.Author.Tests.{le-ltb}
-use lib.Dec.{eqb, ltb}
+use borrow.Author.Tests.{eq-eqb, ne-eqb}
+use lib.Dec.{eqb}
 use lib.ListN.{length, getD, drop, length-append, length-drop, List·getD-eq-default}
 use Rattle.field.specs.Part.{part}
-use Rattle.field.proofs.Parts.{head-at, part-all, part-is, length-part-in}
-use Rattle.scan.specs.Kinds.{isLetter, isWordByte, isNumericByte}
+use Rattle.field.proofs.Parts.{head-at, part-is}
+use Rattle.scan.specs.Kinds.{isDigit, isLetter, isWordByte}
+use Rattle.scan.proofs.Runs.{run-stop, run-past}
 use Rattle.word.specs.Word.{isName, wordRead}
 use Rattle.word.specs.declared.Word.{Word}
 use Rattle.word.specs.declared.Word.the-variants.{Job, Response, Upload, Download, GetInfo, Abort, Report, Event, Start, Active, Immediate, Other, Name as name, TimeGe}
@@ -17,49 +18,44 @@ use Rattle.word.specs.declared.WordRead.{WordRead}
 use Rattle.word.specs.declared.WordRead.the-variants.{Is, NoWord}
 use Rattle.word.proofs.Words.{ends-after}
 use Rattle.word.proofs.Alone.{name-goes-on, name-alone}
-use Rattle.token.specs.Token.{WholeString, contentAt, wordToken, tokenAt}
-use Rattle.token.specs.declared.Token.{Token}
-use Rattle.token.specs.declared.Token.the-variants.{End as Ended, NoToken, Word as AWord, Number, Time, Text, Sign, Semicolon}
-use Rattle.token.proofs.Ahead.{figures, in-range}
-use Rattle.token.proofs.Whole.{whole-string-exactly, string-token-exactly}
-use Rattle.number.specs.Number.{Numeral}
+use Rattle.token.specs.Token.{WholeString, contentEnd, isTextAt, contentAt}
+use Rattle.token.proofs.Ahead.{in-range}
+use Rattle.token.proofs.Whole.{whole-string-exactly, end-of}
+use Rattle.number.specs.Number.{unsigned, Numeral}
 use Rattle.number.proofs.Digits.{first-byte}
-use Rattle.item.specs.Numbers.{NumberFrom}
-use Rattle.item.proofs.NumberTokens.{number-token-exactly}
-use Rattle.item.proofs.NumeralTokens.{some-bytes}
+use Rattle.item.proofs.NumeralTokens.{digit-range, first-digit, no-letter, some-bytes}
 use Rattle.delimited.specs.Lines.{isDelimiter}
 use Rattle.delimited.proofs.Lines.{of-four}
 use Rattle.report.specs.Report.{Name, Value, number, string}
-use Rattle.report.specs.Reading.{nameOf, nameAt, valueOf, valueAt, fieldAt, cellAt}
+use Rattle.report.specs.Reading.{nameOf, nameAt, figuresAt, numeralAt, stringEnd, valueAt, fieldAt, cellAt}
 use Rattle.report.specs.declared.FieldRead.{FieldRead}
 use Rattle.report.specs.declared.FieldRead.the-variants.{End, NoField}
+use Rattle.report.proofs.Numbers.{no-field≢end, numeral-found, numeral-stands}
 
 -- ---- what goes on with no word and no number
 
 pub record Stops (y : ℕ) : Type 0 where
   pub word : isWordByte y ≡ false
-  pub numeric : isNumericByte y ≡ false
   pub sign : y ≡ 62 → ⊥
+  pub digit : isDigit y ≡ false
+  pub point : y ≡ 46 → ⊥
 
 -- past the end of the file, at CR, at a delimiter
 pub nothing-stops : Stops 0
-nothing-stops = record { word = refl; numeric = refl; sign = λ e. omega arith }
+nothing-stops = record { word = refl; sign = λ e. omega arith; digit = refl; point = λ e. omega arith }
 
 pub end-stops : Stops 13
-end-stops = record { word = refl; numeric = refl; sign = λ e. omega arith }
+end-stops = record { word = refl; sign = λ e. omega arith; digit = refl; point = λ e. omega arith }
 
 pub delimiter-stops : (d : ℕ) → isDelimiter d ≡ true → Stops d
 delimiter-stops =
     of-four Stops
-    (record { word = refl; numeric = refl; sign = λ e. omega arith })
-    (record { word = refl; numeric = refl; sign = λ e. omega arith })
-    (record { word = refl; numeric = refl; sign = λ e. omega arith })
-    (record { word = refl; numeric = refl; sign = λ e. omega arith })
+    (record { word = refl; sign = λ e. omega arith; digit = refl; point = λ e. omega arith })
+    (record { word = refl; sign = λ e. omega arith; digit = refl; point = λ e. omega arith })
+    (record { word = refl; sign = λ e. omega arith; digit = refl; point = λ e. omega arith })
+    (record { word = refl; sign = λ e. omega arith; digit = refl; point = λ e. omega arith })
 
 -- ---- a field that is found
-
-pub no-field≢end : {e : ℕ} → NoField ≡ End e → ⊥
-no-field≢end h = let z : _≡_ {A = ℕ} 0 1 = cc in omega arith
 
 pub record Found (P : List ℕ → Type 0) (s : List ℕ) (i e : ℕ) : Type 0 where
   pub ahead : i < e
@@ -107,44 +103,37 @@ module _ (s : List ℕ) (i : ℕ) where
       go true l NoWord q x = absurd (no-field≢end x)
       go true l (Is w b) q x = of-word l w b q (isName w) refl x
 
-  value-found : (e : ℕ) → valueAt s i ≡ End e → Found Value s i e
-  unfolding valueAt
-  value-found e h = go (tokenAt s i) refl h
+  string-found : (e : ℕ) → stringEnd s i ≡ End e → Found Value s i e
+  unfolding stringEnd
+  string-found e h = go (isTextAt s i) refl h
     where
-      a-number : (a b : ℕ) → tokenAt s i ≡ Number a b → b ≡ e → Found Value s i e
-      a-number a b t j =
-          let n = number-token-exactly s i a b .0 t in
-          let f = figures s i a b t in
-          record {
-            ahead = omega (arith, f .1 .ahead, n .0);
-            inside = omega (arith, n .1 .inside);
-            is = rw (← j, ← n .0) (number (n .1 .numeral));
-          }
-
-      a-string : (a b : ℕ) → tokenAt s i ≡ Text a b → b ≡ e → Found Value s i e
-      a-string a b t j =
-          let q = string-token-exactly s i a b .0 t in
+      a-string : isTextAt s i ≡ true → contentEnd s i + 1 ≡ e → Found Value s i e
+      a-string t j =
           let c = contentAt s i in
-          let w = whole-string-exactly s i c .1 (q .0, refl) in
+          let w = whole-string-exactly s i c .1 (t, refl) in
+          let end : e ≡ i + length c + 2 = sym j ∙ end-of s i t in
           let split : drop i s ≡ (34 ∷ (c ++ (34 ∷ []))) ++ w .after = w .stands ∙ ap (λ (l : List ℕ). 34 ∷ l) (sym (append-assoc c (34 ∷ []) (w .after))) in
-          let long : length (34 ∷ (c ++ (34 ∷ []))) ≡ e - i = omega (arith, length-append c (34 ∷ []), q .2) in
-          let room = simp (length-append, length-drop) at (ap length split) in
+          let long : length (34 ∷ (c ++ (34 ∷ []))) ≡ e - i = omega (arith, length-append c (34 ∷ []), end) in
           record {
-            ahead = omega (arith, q .2);
-            inside = omega (arith, q .2, length-append c (34 ∷ []), simp (length-append, length-drop) at (ap length split));
+            ahead = omega (arith, end);
+            inside = omega (arith, end, length-append c (34 ∷ []), simp (length-append, length-drop) at (ap length split));
             is = rw (part-is s i (34 ∷ (c ++ (34 ∷ []))) (e - i) long (w .after) split)
                 (string (record { after = []; stands = refl; few = w .few; each = w .each }) refl);
           }
 
-      go : (t : Token) → tokenAt s i ≡ t → valueOf t ≡ End e → Found Value s i e
-      go (Ended p) q x = absurd (no-field≢end x)
-      go (NoToken w p) q x = absurd (no-field≢end x)
-      go (AWord a b w) q x = absurd (no-field≢end x)
-      go (Number a b) q x = a-number a b q (cc)
-      go (Time a b) q x = absurd (no-field≢end x)
-      go (Text a b) q x = a-string a b q (cc)
-      go (Sign o a b) q x = absurd (no-field≢end x)
-      go (Semicolon a b) q x = absurd (no-field≢end x)
+      go : (t : Bool) → isTextAt s i ≡ t → cond t (End (contentEnd s i + 1)) NoField ≡ End e → Found Value s i e
+      go true t x = a-string t (cc)
+      go false t x = absurd (no-field≢end x)
+
+  value-found : (e : ℕ) → valueAt s i ≡ End e → Found Value s i e
+  unfolding valueAt
+  value-found e h = go (eqb (getD s i 0) 34) h
+    where
+      go : (t : Bool) → cond t (stringEnd s i) (numeralAt s i) ≡ End e → Found Value s i e
+      go true x = string-found e x
+      go false x =
+          let f = numeral-found s i e x .1 in
+          record { ahead = f .ahead; inside = f .inside; is = number (f .is .numeral) }
 
   -- ---- and one that stands there
 
@@ -161,39 +150,32 @@ module _ (s : List ℕ) (i : ℕ) where
         first-here [] rest h l = absurd (false≢true l)
         first-here (y ∷ x) rest h l = rw (head-at s i y (x ++ rest) h) l
 
-    bytes : (n : ℕ) → n ≡ length x → part s i n ≡ x
-    bytes n e = rw e (part-is s i x (length x) refl rest stands)
-
-    number-stands : {minus : Bool} {w f : List ℕ} → 1 ≤ length x → Numeral x minus w f → valueAt s i ≡ End (i + length x)
-    unfolding valueAt
-    number-stands {minus} {w} {f} some n =
-        let k : i + length x - i ≡ length x = omega arith in
-        rw (number-token-exactly s i i (i + length x) .1 (
-          refl,
-          record {
-            minus = minus;
-            whole = w;
-            after = f;
-            numeral = rw (bytes (i + length x - i) k) n;
-            inside = room some;
-            longest = stops .numeric;
-          },
-        ))
-
     string-stands : {c : List ℕ} → (w : WholeString x 0 c) → w .after ≡ [] → valueAt s i ≡ End (i + length x)
-    unfolding valueAt
+    unfolding valueAt stringEnd
     string-stands {c} w last =
         let is : x ≡ 34 ∷ (c ++ (34 ∷ [])) = w .stands ∙ rw last in
-        let whole : WholeString s i c =
-        record { after = rest; stands = stands ∙ rw is (ap (λ (l : List ℕ). 34 ∷ l) (append-assoc c (34 ∷ []) rest)); few = w .few; each = w .each }
-        in
-        let t = whole-string-exactly s i c .0 whole in
+        let here : drop i s ≡ 34 ∷ (c ++ (34 ∷ rest)) = stands ∙ rw is (ap (λ (l : List ℕ). 34 ∷ l) (append-assoc c (34 ∷ []) rest)) in
+        let t = whole-string-exactly s i c .0 (record { after = rest; stands = here; few = w .few; each = w .each }) in
         let long : length x ≡ length c + 2 = rw is (omega (arith, length-append c (34 ∷ []))) in
-        rw (string-token-exactly s i i (i + length x) .1 (t .0, refl, rw (t .1) (omega arith)))
+        let end : contentEnd s i + 1 ≡ i + length x = end-of s i (t .0) ∙ rw (t .1) (omega arith) in
+        rw (eq-eqb (getD s i 0) 34 (head-at s i 34 (c ++ (34 ∷ rest)) here), t .0, end)
 
-    value-stands : Value x → 1 ≤ length x → valueAt s i ≡ End (i + length x)
-    value-stands (number n) some = number-stands some n
-    value-stands (string w last) some = string-stands w last
+    number-stands : {minus : Bool} {w f : List ℕ} → Numeral x minus w f → valueAt s i ≡ End (i + length x)
+    unfolding valueAt
+    number-stands {minus} {w} {f} n =
+        rw (ne-eqb (getD s i 0) 34 (no-quote minus w f n))
+        (numeral-stands s (i + length x) (stops .digit) (stops .point) i x rest minus w f n stands refl)
+      where
+        no-quote : (minus : Bool) (w f : List ℕ) → Numeral x minus w f → getD s i 0 ≡ 34 → ⊥
+        no-quote false w f n q =
+            let d = first-digit s i w f rest (n .whole) (n .some) (stands ∙ ap (λ (l : List ℕ). l ++ rest) (n .bytes)) in
+            omega (arith, digit-range (getD s i 0) d)
+        no-quote true w f n q =
+            omega (arith, head-at s i 45 (unsigned w f ++ rest) (stands ∙ ap (λ (l : List ℕ). l ++ rest) (n .bytes)))
+
+    value-stands : Value x → valueAt s i ≡ End (i + length x)
+    value-stands (number n) = number-stands n
+    value-stands (string w last) = string-stands w last
 
 -- ---- names and values alike
 
@@ -219,18 +201,23 @@ field-found false s i e h = name-found s i e h
 pub field-stands : (values : Bool) (s : List ℕ) (i : ℕ) (x rest : List ℕ) → drop i s ≡ x ++ rest → Stops (getD s (i + length x) 0) → Field values x
     → fieldAt values s i ≡ End (i + length x)
 unfolding fieldAt
-field-stands true s i x rest stands stops v = value-stands s i x rest stands stops v (field-some true x v)
+field-stands true s i x rest stands stops v = value-stands s i x rest stands stops v
 field-stands false s i x rest stands stops n = name-stands s i x rest stands stops n
 
 -- no value begins with a letter
 letter-no-value : (s : List ℕ) (i : ℕ) → isLetter (getD s i 0) ≡ true → valueAt s i ≡ NoField
-unfolding valueAt tokenAt
-letter-no-value s i l = rw l (go (ltb i (length s)) (wordRead s i))
+unfolding valueAt numeralAt figuresAt
+letter-no-value s i l =
+    rw (
+      ne-eqb (getD s i 0) 34 (λ q. false≢true (rw q at l)),
+      ne-eqb (getD s i 0) 45 (λ q. false≢true (rw q at l)),
+      run-stop isDigit s i (in-range s i isLetter i refl l) (no-digit (isDigit (getD s i 0)) refl),
+      eq-eqb i i refl,
+    )
   where
-    go : (b : Bool) (r : WordRead) → valueOf (cond b (wordToken i r) (Ended i)) ≡ NoField
-    go false r = refl
-    go true (Is w e) = refl
-    go true NoWord = refl
+    no-digit : (t : Bool) → isDigit (getD s i 0) ≡ t → isDigit (getD s i 0) ≡ false
+    no-digit false e = e
+    no-digit true e = absurd (false≢true (sym (no-letter (getD s i 0) e) ∙ l))
 
 -- so a field is the cell that stands there
 pub field-cell : (values : Bool) (s : List ℕ) (i e : ℕ) → fieldAt values s i ≡ End e → cellAt s i ≡ End e
@@ -245,7 +232,11 @@ field-cell values s i e h = go values (isLetter (getD s i 0)) refl h
     go false false l x = absurd (no-field≢end x)
 
 -- past the end stands none
+pub no-value-past : (s : List ℕ) (i : ℕ) → length s ≤ i → valueAt s i ≡ NoField
+unfolding valueAt numeralAt figuresAt
+no-value-past s i h = rw (List·getD-eq-default s 0 h, run-past isDigit s i h, eq-eqb i i refl)
+
 pub no-field-past : (values : Bool) (s : List ℕ) (i : ℕ) → length s ≤ i → fieldAt values s i ≡ NoField
-unfolding fieldAt nameAt valueAt tokenAt
-no-field-past true s i h = rw (le-ltb i (length s) h)
+unfolding fieldAt nameAt
+no-field-past true s i h = no-value-past s i h
 no-field-past false s i h = rw (List·getD-eq-default s 0 h)

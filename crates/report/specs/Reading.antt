@@ -1,20 +1,19 @@
 -- A report as it is read: field by field, line by line. Need not be believed: `reads-report` of the page of claims ties it to `Report` and `Breaks`.
 use Prim.Native.Nat.{ℕ, zero, suc, _+_, _-_, _*_}
-use mathlib.Core.Bool.{Bool, true, false, cond}
+use mathlib.Core.Bool.{Bool, true, false, cond, _&&_}
 use mathlib.Core.List.{List, [], _∷_}
 use lib.Dec.{eqb, leb, ltb}
 use lib.ListN.{length, getD}
-use Rattle.counts.specs.Limits.{columns}
+use Rattle.counts.specs.Limits.{numberDigits, columns}
 use Rattle.counts.specs.Refusals.{outOfRange, notARecord, tooLittleRoom}
 use Rattle.counts.specs.Result.{Result}
 use Rattle.counts.specs.Result.Result.{refused, done}
-use Rattle.scan.specs.Kinds.{isLetter}
+use Rattle.scan.specs.Kinds.{isDigit, isLetter}
+use Rattle.scan.specs.Run.{runEnd}
 use Rattle.word.specs.Word.{isName, wordRead}
 use Rattle.word.specs.declared.WordRead.{WordRead}
 use Rattle.word.specs.declared.WordRead.the-variants.{Is, NoWord}
-use Rattle.token.specs.Token.{tokenAt}
-use Rattle.token.specs.declared.Token.{Token}
-use Rattle.token.specs.declared.Token.the-variants.{End as Ended, NoToken, Word, Number, Time, Text, Sign, Semicolon}
+use Rattle.token.specs.Token.{contentEnd, isTextAt}
 use Rattle.delimited.specs.Lines.{isDelimiter}
 use Rattle.delimited.specs.Separators.{separatorAt, onSeparator}
 use Rattle.report.specs.Report.{Told}
@@ -34,18 +33,24 @@ nameOf NoWord = NoField
 unfoldable pub nameAt : List ℕ → ℕ → FieldRead
 nameAt s i = cond (isLetter (getD s i 0)) (nameOf (wordRead s i)) NoField
 
-abbrev pub valueOf : Token → FieldRead
-valueOf (Ended p) = NoField
-valueOf (NoToken w p) = NoField
-valueOf (Word a b w) = NoField
-valueOf (Number a b) = End b
-valueOf (Time a b) = NoField
-valueOf (Text a b) = End b
-valueOf (Sign o a b) = NoField
-valueOf (Semicolon a b) = NoField
+-- digits from d on, and where a point follows them more digits after it: at most 16 in all
+unfoldable pub figuresAt : List ℕ → ℕ → FieldRead
+figuresAt s d =
+    let m = runEnd isDigit s d in
+    let e = runEnd isDigit s (m + 1) in
+    cond (eqb m d) NoField
+    (cond (eqb (getD s m 0) 46)
+    (cond (ltb (m + 1) e && leb e (d + numberDigits + 1)) (End e) NoField)
+    (cond (leb m (d + numberDigits)) (End m) NoField))
+
+unfoldable pub numeralAt : List ℕ → ℕ → FieldRead
+numeralAt s i = cond (eqb (getD s i 0) 45) (figuresAt s (i + 1)) (figuresAt s i)
+
+unfoldable pub stringEnd : List ℕ → ℕ → FieldRead
+stringEnd s i = cond (isTextAt s i) (End (contentEnd s i + 1)) NoField
 
 unfoldable pub valueAt : List ℕ → ℕ → FieldRead
-valueAt s i = valueOf (tokenAt s i)
+valueAt s i = cond (eqb (getD s i 0) 34) (stringEnd s i) (numeralAt s i)
 
 -- a name, or where values are looked for a value
 unfoldable pub fieldAt : Bool → List ℕ → ℕ → FieldRead

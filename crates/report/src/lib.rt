@@ -2,26 +2,29 @@
 // refusal changes nothing that is lent.
 use counts::COLUMNS;
 use counts::NOT_A_RECORD;
+use counts::NUMBER_DIGITS;
 use counts::OUT_OF_RANGE;
 use counts::Refusal;
+use counts::TEXT_BYTES;
 use counts::TOO_LITTLE_ROOM;
 use delimited::Separator;
 use delimited::is_delimiter;
 use delimited::separator_at;
 use field::byte_at;
+use scan::DIGIT;
+use scan::TEXT;
 use scan::is_letter;
-use token::Token;
-use token::token_at;
+use scan::run_end;
 use word::WordRead;
 use word::is_name;
 use word::word_at;
 ghost use mathlib.Core.Path.{_≡_};
 ghost use mathlib.Core.Bool.{true};
-ghost use Prim.Native.Nat.{suc, _≤_};
-ghost use lib.ListN.{length};
+ghost use Prim.Native.Nat.{suc, _≤_, _<_};
+ghost use lib.ListN.{length, getD};
 ghost use Rattle.field.specs.Part.{put};
 ghost use Rattle.delimited.specs.Lines.{isDelimiter};
-ghost use Rattle.report.specs.Reading.{nameAt, valueAt, fieldAt, cellAt, lineAt, linesFrom, judged, cellsFrom, readReport};
+ghost use Rattle.report.specs.Reading.{nameAt, figuresAt, stringEnd, valueAt, fieldAt, cellAt, lineAt, linesFrom, judged, cellsFrom, readReport};
 ghost use Rattle.report.specs.Answer.{sized, filled, paperReportRead};
 
 // The place after a field, or none stands there.
@@ -65,28 +68,57 @@ fn name_at(s: &[u8], i: usize) -> FieldRead
     FieldRead::NoField
 }
 
-// The value at i.
+// The digits from d on, with a point between two of them where one stands: at most 16.
+fn figures_at(s: &[u8], d: usize) -> FieldRead
+    requires { ⌜ d ≤ length (now s) ⌝ }
+    ensures { λ r. ⌜ r ≡ figuresAt (now (s .entry)) d ⌝ }
+{
+    let whole = run_end(s, d, DIGIT);
+    if whole == d {
+        return FieldRead::NoField;
+    }
+    if byte_at(s, whole) == 46 {
+        let end = run_end(s, whole + 1, DIGIT);
+        if (whole + 1 < end) & (end <= d + NUMBER_DIGITS + 1) {
+            return FieldRead::End(end);
+        }
+        return FieldRead::NoField;
+    }
+    if whole <= d + NUMBER_DIGITS {
+        return FieldRead::End(whole);
+    }
+    FieldRead::NoField
+}
+
+// The string that opens at i.
+fn string_at(s: &[u8], i: usize) -> FieldRead
+    requires { ⌜ (i < length (now s)) × (getD (now s) i 0 ≡ 34) ⌝ }
+    ensures { λ r. ⌜ r ≡ stringEnd (now (s .entry)) i ⌝ }
+{
+    let end = run_end(s, i + 1, TEXT);
+    if end - (i + 1) <= TEXT_BYTES {
+        if byte_at(s, end) == 34 {
+            return FieldRead::End(end + 1);
+        }
+    }
+    FieldRead::NoField
+}
+
+// The value at i: a string, or a number with or without a sign.
 fn value_at(s: &[u8], i: usize) -> FieldRead
     ensures { λ r. ⌜ r ≡ valueAt (now (s .entry)) i ⌝ }
 {
-    match token_at(s, i) {
-        Token::End(_) => FieldRead::NoField,
-        Token::NoToken { why: _, place: _ } => FieldRead::NoField,
-        Token::Word {
-            start: _,
-            end: _,
-            word: _,
-        } => FieldRead::NoField,
-        Token::Number { start: _, end } => FieldRead::End(end),
-        Token::Time { start: _, end: _ } => FieldRead::NoField,
-        Token::Text { start: _, end } => FieldRead::End(end),
-        Token::Sign {
-            operator: _,
-            start: _,
-            end: _,
-        } => FieldRead::NoField,
-        Token::Semicolon { start: _, end: _ } => FieldRead::NoField,
+    if i < s.len() {
+        let b = s[i];
+        if b == 34 {
+            return string_at(s, i);
+        }
+        if b == 45 {
+            return figures_at(s, i + 1);
+        }
+        return figures_at(s, i);
     }
+    FieldRead::NoField
 }
 
 // The name at i, or where values are looked for the value.

@@ -187,7 +187,7 @@ module _ (s : List ℕ) (i : ℕ) where
   to-string t = rw (lt-ltb _ _ (text-inside s i t), begins s i t, t)
 
   -- the closing quote stands just after the content
-  end-of : isTextAt s i ≡ true → contentEnd s i + 1 ≡ i + length (contentAt s i) + 2
+  pub end-of : isTextAt s i ≡ true → contentEnd s i + 1 ≡ i + length (contentAt s i) + 2
   unfolding runEnd
   end-of t = rw (shown s i) (omega (arith, length-take (run isTextByte (drop (i + 1) s)) (drop (i + 1) s), run-fits isTextByte (drop (i + 1) s)))
 

@@ -14,8 +14,9 @@ use word::Word;
 use word::WordRead;
 use word::word_at;
 ghost use mathlib.Core.Path.{_≡_};
-ghost use Prim.Native.Nat.{_≤_, _<_, _^_};
+ghost use Prim.Native.Nat.{_≤_, _<_, _*_};
 ghost use lib.ListN.{length, getD};
+ghost use Rattle.counts.specs.Limits.{fileBytes};
 ghost use Rattle.word.specs.Word.{wordRead};
 ghost use Rattle.token.specs.Token.{wordToken, stringAt, isTextAt, pairAt, isTimeAt, isNumberAt, shapedAt, numericAt, oneSign, signBeforeEqual, signAt, tokenAt, nextToken};
 
@@ -73,7 +74,7 @@ pub enum Token {
 }
 
 fn word_token(s: &[u8], i: usize) -> Token
-    requires { ⌜ i < length (now s) ⌝ }
+    requires { ⌜ (i < length (now s)) × (length (now s) ≤ fileBytes) ⌝ }
     ensures { λ r. ⌜ r ≡ wordToken i (wordRead (now (s .entry)) i) ⌝ }
 {
     let WordRead::Is(word, end) = word_at(s, i) else {
@@ -90,7 +91,7 @@ fn word_token(s: &[u8], i: usize) -> Token
 }
 
 fn text_token(s: &[u8], i: usize) -> Token
-    requires { ⌜ (i < length (now s)) × (getD (now s) i 0 ≡ 34) ⌝ }
+    requires { ⌜ (i < length (now s)) × (length (now s) ≤ fileBytes) × (getD (now s) i 0 ≡ 34) ⌝ }
     ensures { λ r. ⌜ r ≡ stringAt (now (s .entry)) i ⌝ }
 {
     let end = run_end(s, i + 1, TEXT);
@@ -133,7 +134,7 @@ pub fn is_text(s: &[u8], i: usize) -> bool
 
 // A sign of one byte b.
 fn one_sign(b: u8, i: usize) -> Token
-    requires { ⌜ i < 2 ^ 63 ⌝ }
+    requires { ⌜ i < fileBytes ⌝ }
     ensures { λ r. ⌜ r ≡ oneSign b i ⌝ }
 {
     let end = i + 1;
@@ -169,7 +170,7 @@ fn one_sign(b: u8, i: usize) -> Token
 
 // The same where = follows b.
 fn sign_before_equal(b: u8, i: usize) -> Token
-    requires { ⌜ i < 2 ^ 63 ⌝ }
+    requires { ⌜ i < fileBytes ⌝ }
     ensures { λ r. ⌜ r ≡ signBeforeEqual b i ⌝ }
 {
     let end = i + 2;
@@ -198,7 +199,7 @@ fn sign_before_equal(b: u8, i: usize) -> Token
 }
 
 fn sign_token(s: &[u8], i: usize) -> Token
-    requires { ⌜ i < length (now s) ⌝ }
+    requires { ⌜ (i < length (now s)) × (length (now s) ≤ fileBytes) ⌝ }
     ensures { λ r. ⌜ r ≡ signAt (now (s .entry)) i ⌝ }
 {
     if byte_at(s, i + 1) == 61 {
@@ -209,7 +210,7 @@ fn sign_token(s: &[u8], i: usize) -> Token
 
 // Two digits at i.
 fn pair_at(s: &[u8], i: usize) -> bool
-    requires { ⌜ i < 2 ^ 63 ⌝ }
+    requires { ⌜ i < 2 * fileBytes ⌝ }
     ensures { λ r. ⌜ r ≡ pairAt (now (s .entry)) i ⌝ }
 {
     digit_at(s, i) & digit_at(s, i + 1)
@@ -217,7 +218,7 @@ fn pair_at(s: &[u8], i: usize) -> bool
 
 // dd:dd:dd from i to e.
 fn is_time(s: &[u8], i: usize, e: usize) -> bool
-    requires { ⌜ (i ≤ e) × (e ≤ length (now s)) ⌝ }
+    requires { ⌜ (i ≤ e) × (e ≤ fileBytes) ⌝ }
     ensures { λ r. ⌜ r ≡ isTimeAt (now (s .entry)) i e ⌝ }
 {
     if e - i == 8 {
@@ -232,7 +233,7 @@ fn is_time(s: &[u8], i: usize, e: usize) -> bool
 
 // 1 to 16 digits from d to e, with at most one point between two of them.
 fn is_number(s: &[u8], d: usize, e: usize) -> bool
-    requires { ⌜ (d ≤ e) × (e ≤ length (now s)) ⌝ }
+    requires { ⌜ (d ≤ e) × (e ≤ fileBytes) × (length (now s) ≤ fileBytes) ⌝ }
     ensures { λ r. ⌜ r ≡ isNumberAt (now (s .entry)) d e ⌝ }
 {
     let m = run_end(s, d, DIGIT);
@@ -245,7 +246,7 @@ fn is_number(s: &[u8], d: usize, e: usize) -> bool
 
 // A numeric run that starts at i and has its first digit at d.
 fn shaped_token(s: &[u8], i: usize, d: usize) -> Token
-    requires { ⌜ (i ≤ d) × (d ≤ length (now s)) ⌝ }
+    requires { ⌜ (i ≤ d) × (d ≤ length (now s)) × (length (now s) ≤ fileBytes) ⌝ }
     ensures { λ r. ⌜ r ≡ shapedAt (now (s .entry)) i d ⌝ }
 {
     let end = run_end(s, d, NUMERIC);
@@ -262,7 +263,7 @@ fn shaped_token(s: &[u8], i: usize, d: usize) -> Token
 }
 
 fn numeric_token(s: &[u8], i: usize) -> Token
-    requires { ⌜ i < length (now s) ⌝ }
+    requires { ⌜ (i < length (now s)) × (length (now s) ≤ fileBytes) ⌝ }
     ensures { λ r. ⌜ r ≡ numericAt (now (s .entry)) i ⌝ }
 {
     if s[i] == 45 {
@@ -278,7 +279,8 @@ fn numeric_token(s: &[u8], i: usize) -> Token
 }
 
 // The token that begins at i, by its first byte.
-pub fn token_at(s: &[u8], i: usize) -> Token
+fn token_at(s: &[u8], i: usize) -> Token
+    requires { ⌜ length (now s) ≤ fileBytes ⌝ }
     ensures { λ r. ⌜ r ≡ tokenAt (now (s .entry)) i ⌝ }
 {
     if i < s.len() {
@@ -299,6 +301,7 @@ pub fn token_at(s: &[u8], i: usize) -> Token
 
 // The next token from at on.
 pub fn next_token(s: &[u8], at: usize) -> Token
+    requires { ⌜ length (now s) ≤ fileBytes ⌝ }
     ensures { λ r. ⌜ r ≡ nextToken (now (s .entry)) at ⌝ }
 {
     token_at(s, blank_end(s, at))
