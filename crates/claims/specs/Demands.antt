@@ -1,6 +1,6 @@
--- What is claimed: the user's three demands, each a record whose fields are its claims, under the sentences that they say. `proofs/Demands` gives one
--- of each. The words are those that the contracts of the public calls cite (docs/CALLS.md); that a call ends, for all bytes and numbers, and meets its
--- contract, is what the prover shows of every function.
+-- What is claimed: the user's three demands, and document 02's requests as they land, each a record whose fields are its claims, under the sentences
+-- that they say. `proofs/Demands` gives one of each. The words are those that the contracts of the public calls cite (docs/CALLS.md); that a call ends,
+-- for all bytes and numbers, and meets its contract, is what the prover shows of every function.
 use Prim.Native.Nat.{ℕ, _+_, _-_, _*_, _^_, _≤_, _<_}
 use mathlib.Core.Path.{_≡_}
 use mathlib.Core.Bool.{Bool, true, false, cond}
@@ -131,9 +131,13 @@ pub record Demand1 : Type 0 where
   pub collect-leaves : (b : List ℕ) (p t : ℕ) (out : List ℕ) → soundBytes b ≡ true
       → abs (collectedBytes b p t (length out)) ≡ collect (abs b) p t (length out) .1
   pub leaves-sound : (b : List ℕ) (c : Call) → soundBytes b ≡ true → makesAnew c ≡ false → soundBytes (stepBytes b c .1) ≡ true
-  -- "On success, places beyond those written stay.": a name, a record, a reply ("all records in order") stands at the start of the output, the offsets at
-  -- the start of their table
+  -- "On success, places beyond those written stay.": a name, a record, a report, a reply ("all records in order") stands at the start of the output, offsets
+  -- and cells at the start of what is lent for them
   pub offsets-written : (file offsets os : List ℕ) → let x = readJob file (length offsets) in x ≡ done os → filled x offsets ≡ put offsets 0 os
+  pub cells-written : (d : ℕ) (file cells : List ℕ) (t : Told) → let x = readReport d file (length cells) in
+      x ≡ done t → report.filled x cells ≡ put cells 0 (t .cells)
+  pub report-written : (source cells : List ℕ) (many d : ℕ) (out text : List ℕ) → let x = reportWriting.written source cells many d (length out) in
+      x ≡ done text → reportWriting.filled x out ≡ put out 0 text
   pub name-written : (max n k : ℕ) (kind : Kind) (out : List ℕ) → name.written max n out ≡ done k → name.writtenBytes max n kind out ≡ put out 0 (name.nameOf n kind)
   pub record-written : (c : Content) (out : List ℕ) (k : ℕ) → writing.written commands c out ≡ done k → writing.writtenBytes commands c out ≡ put out 0 (recordBytes c)
   pub reply-written : (b : List ℕ) (p t : ℕ) (out reply : List ℕ) → collecting b p t (length out) ≡ done reply → collectedOut b p t out ≡ put out 0 reply

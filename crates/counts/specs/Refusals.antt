@@ -26,7 +26,7 @@ notReal = 5
 abbrev pub tooManyStatements : ℕ
 tooManyStatements = 6
 
--- "record field out of range, or bytes that are not a record"
+-- "record field out of range, or bytes that are not a record"; P1: "7, reading with the start of the first line that doesn't fit"
 abbrev pub notARecord : ℕ
 notARecord = 7
 

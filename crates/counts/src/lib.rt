@@ -9,7 +9,7 @@ pub struct CommandNumber(pub u32);
 
 pub struct Ticket(pub u32);
 
-// A refusal: its number, and the place for 3 to 6 in a file, else 0.
+// A refusal: its number, and the place for 3 to 6 in a file and for 7 in a report, else 0.
 pub struct Refusal {
     pub number: u32,
     pub place: usize,
@@ -70,7 +70,7 @@ pub const NOT_REAL: u32 = 5;
 // any token after 64 statements
 pub const TOO_MANY_STATEMENTS: u32 = 6;
 
-// record field out of range, or bytes that are not a record
+// record field out of range, or bytes that are not a record; a report: its first line that does not fit
 pub const NOT_A_RECORD: u32 = 7;
 
 // lent output too short for the whole answer

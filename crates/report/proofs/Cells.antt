@@ -61,7 +61,8 @@ module _ (d : ℕ) (is : isDelimiter d ≡ true) (s : List ℕ) where
       }
   row-cells values (suc n) i x (y ∷ ys) rest (and f fs) h bound =
       let p = field-in-line values d is s i x (y ∷ ys) rest f h in
-      let q : drop (i + length x + 1) s ≡ line d (y ∷ ys) ++ rest = rest-is s (i + length x) (d ∷ []) 1 refl (line d (y ∷ ys) ++ rest) (i + length x + 1) refl (p .1) in
+      let q : drop (i + length x + 1) s ≡ line d (y ∷ ys) ++ rest = rest-is s (i + length x) (d ∷ []) 1 refl (line d (y ∷ ys) ++ rest)
+      (i + length x + 1) refl (p .1) in
       let r = row-cells values n (i + length x + 1) y ys rest fs q (omega arith) in
       let e : i + length x + 1 + length (line d (y ∷ ys)) ≡ i + length (line d (x ∷ (y ∷ ys))) =
       omega (arith, length-append x (d ∷ line d (y ∷ ys)))
@@ -92,7 +93,8 @@ module _ (d : ℕ) (is : isDelimiter d ≡ true) (s : List ℕ) where
     pub report-cells : cellsFrom (length s) d s 0 ≡ cellsOf d 0 (r .names ∷ r .values)
     unfolding lines cellsOf
     report-cells =
-        let a = line-cells false (length s) 0 (r .names) (lines d (r .values)) (report .fits .first .some) (report .fits .first .each) (report .is) (omega arith) in
+        let a = line-cells false (length s) 0 (r .names) (lines d (r .values)) (report .fits .first .some) (report .fits .first .each) (report .is)
+        (omega arith) in
         let j = 0 + length (line d (r .names)) in
         let on : drop j s ≡ lines d (r .values) =
         rest-is s 0 (line d (r .names)) (length (line d (r .names))) refl (lines d (r .values)) j refl (report .is)

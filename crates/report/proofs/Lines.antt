@@ -113,7 +113,8 @@ module _ (values : Bool) (d : ℕ) (is : isDelimiter d ≡ true) (s : List ℕ) 
       let stands : drop i s ≡ x ++ (others d xs ++ rest) = h ∙ append-assoc x (others d xs) rest in
       let next : drop (i + length x) s ≡ others d xs ++ rest = rest-is s i x (length x) refl (others d xs ++ rest) (i + length x) refl stands in
       let e : i + length x + 0 ≡ i + length x = omega arith in
-      let byte : getD (others d xs ++ rest) 0 0 ≡ getD s (i + length x) 0 = ap (λ (l : List ℕ). getD l 0 0) (sym next) ∙ rw e at (getD-drop (i + length x) s 0 0) in
+      let byte : getD (others d xs ++ rest) 0 0 ≡ getD s (i + length x) 0 = ap (λ (l : List ℕ). getD l 0 0) (sym next) ∙ rw e at
+      (getD-drop (i + length x) s 0 0) in
       (field-stands values s i x (others d xs ++ rest) stands (rw byte at (others-stop xs rest)) f, next)
 
   some-left : (i : ℕ) (x : ℕ) (xs : List ℕ) → drop i s ≡ x ∷ xs → i < length s
@@ -130,7 +131,8 @@ module _ (values : Bool) (d : ℕ) (is : isDelimiter d ≡ true) (s : List ℕ) 
       rw (p .0, at-line d is s (i + length x) rest (p .1), e)
   row-stands (suc n) i k x (y ∷ ys) rest (and f fs) h bound =
       let p = field-in-line i x (y ∷ ys) rest f h in
-      let q : drop (i + length x + 1) s ≡ line d (y ∷ ys) ++ rest = rest-is s (i + length x) (d ∷ []) 1 refl (line d (y ∷ ys) ++ rest) (i + length x + 1) refl (p .1) in
+      let q : drop (i + length x + 1) s ≡ line d (y ∷ ys) ++ rest = rest-is s (i + length x) (d ∷ []) 1 refl (line d (y ∷ ys) ++ rest)
+      (i + length x + 1) refl (p .1) in
       let r = row-stands n (i + length x + 1) (k + 1) y ys rest fs q (omega arith) in
       let e : i + length x + 1 + length (line d (y ∷ ys)) ≡ i + length (line d (x ∷ (y ∷ ys))) = omega (arith, length-append x (d ∷ line d (y ∷ ys))) in
       let g : k + 1 + length (y ∷ ys) ≡ k + length (x ∷ (y ∷ ys)) = omega arith in

@@ -141,7 +141,8 @@ module _ (s : List ℕ) (b : ℕ) (no-digit : isDigit (getD s b 0) ≡ false) (n
         middle : (ys : List ℕ) → drop d s ≡ w ++ ys → run isDigit ys ≡ 0 → runEnd isDigit s d ≡ d + length w
         middle ys q z = rw (q, run-whole isDigit w ys (digit-each w digits) z)
 
-  pub numeral-stands : (i : ℕ) (x rest : List ℕ) (minus : Bool) (w f : List ℕ) → Numeral x minus w f → drop i s ≡ x ++ rest → i + length x ≡ b → numeralAt s i ≡ End b
+  pub numeral-stands : (i : ℕ) (x rest : List ℕ) (minus : Bool) (w f : List ℕ) → Numeral x minus w f → drop i s ≡ x ++ rest → i + length x ≡ b
+      → numeralAt s i ≡ End b
   unfolding numeralAt
   numeral-stands i x rest false w f n stands e =
       let bytes : drop i s ≡ unsigned w f ++ rest = stands ∙ ap (λ (l : List ℕ). l ++ rest) (n .bytes) in

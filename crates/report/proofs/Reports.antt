@@ -11,7 +11,7 @@ use Rattle.counts.specs.Limits.{columns}
 use Rattle.field.proofs.Parts.{rest-is}
 use Rattle.delimited.specs.Lines.{isDelimiter, line, lines, Each, none, and}
 use Rattle.delimited.proofs.Lines.{line-some}
-use Rattle.report.specs.Report.{Name, Value, NameLine, ValueLine, Rows, Fits, reportText, Report, Breaks, at-names, at-line}
+use Rattle.report.specs.Report.{Name, Value, NameLine, ValueLine, Rows, RowsFit, reportText, Report, Breaks, at-names, at-line}
 use Rattle.report.specs.Reading.{lineAt, onLine, linesFrom, judged}
 use Rattle.report.specs.declared.LineRead.{LineRead}
 use Rattle.report.specs.declared.LineRead.the-variants.{Fields, NoLine}
@@ -56,12 +56,14 @@ module _ (d : ℕ) (is : isDelimiter d ≡ true) (s : List ℕ) where
         → drop i s ≡ line d row ++ after → ⊥
     other-there i m j q n row after v h = let k = value-line i row after v h in n (cc)
 
-    more : (i k j : ℕ) (row : List (List ℕ)) → Stands true d s i row j → length row ≡ many → {x : Judged} → Verdict d s many j (k + 1) x → Verdict d s many i k x
+    more : (i k j : ℕ) (row : List (List ℕ)) → Stands true d s i row j → length row ≡ many → {x : Judged} → Verdict d s many j (k + 1) x
+        → Verdict d s many i k x
     unfolding lines
     more i k j row r e (whole n ls each bytes q) =
         whole n (row ∷ ls) (and (record { as-many = e; each = r .each }) each) (r .bytes ∙ rw bytes) (omega arith)
     more i k j row r e (breaks p ls rest each bytes goes-on no-line q) =
-        breaks p (row ∷ ls) rest (and (record { as-many = e; each = r .each }) each) (r .bytes ∙ rw bytes (sym (append-assoc (line d row) (lines d ls) rest))) goes-on
+        breaks p (row ∷ ls) rest (and (record { as-many = e; each = r .each }) each)
+        (r .bytes ∙ rw bytes (sym (append-assoc (line d row) (lines d ls) rest))) goes-on
         no-line (omega (arith, r .end, length-append (line d row) (lines d ls)))
 
     left : (i : ℕ) → i < length s → drop i s ≡ [] → ⊥
@@ -72,7 +74,8 @@ module _ (d : ℕ) (is : isDelimiter d ≡ true) (s : List ℕ) where
     Judges n k = (i : ℕ) → length s < n + i → i ≤ length s → Verdict d s many i k (linesFrom n d s many i k)
 
     module _ (n i k : ℕ) (next : Judges n (k + 1)) (bound : length s < suc n + i) (room : i ≤ length s) where
-      stop : i < length s → ((row : List (List ℕ)) (after : List ℕ) → ValueLine many row → drop i s ≡ line d row ++ after → ⊥) → Verdict d s many i k (BreaksAt i)
+      stop : i < length s → ((row : List (List ℕ)) (after : List ℕ) → ValueLine many row → drop i s ≡ line d row ++ after → ⊥) → Verdict d s many i k
+          (BreaksAt i)
       unfolding lines
       stop l no-line = breaks i [] (drop i s) none refl (left i l) no-line (omega arith)
 
@@ -163,7 +166,8 @@ module _ (d : ℕ) (is : isDelimiter d ≡ true) (s : List ℕ) where
         let a = lines-stand n i k ls rest each bytes enough room in
         let j = i + length (lines d ls) in
         let on : drop j s ≡ rest = rest-is s i (lines d ls) (length (lines d ls)) refl rest j refl bytes in
-        a .same ∙ at-break (a .bound) j (k + length ls) (a .enough) (inside j (λ h. goes-on (sym on ∙ h))) (λ row after v h. no-line row after v (sym on ∙ h)) ∙ rw e
+        a .same ∙ at-break (a .bound) j (k + length ls) (a .enough) (inside j (λ h. goes-on (sym on ∙ h)))
+        (λ row after v h. no-line row after v (sym on ∙ h)) ∙ rw e
       where
         inside : (j : ℕ) → (drop j s ≡ [] → ⊥) → j < length s
         inside j some-left = go (ltb j (length s)) refl
@@ -229,7 +233,7 @@ module _ (d : ℕ) (is : isDelimiter d ≡ true) (s : List ℕ) where
   judged-so = by-names (lineAt false d s 0) refl
 
   -- the lines after the names of rows that fit
-  on-values : (r : Rows) (rest : List ℕ) → Fits r → s ≡ reportText d r ++ rest → (x : Judged)
+  on-values : (r : Rows) (rest : List ℕ) → RowsFit r → s ≡ reportText d r ++ rest → (x : Judged)
       → Verdict d s (length (r .names)) (length (line d (r .names))) 0 x → judged d s ≡ x
   unfolding judged lines
   on-values r rest f h x v =
@@ -268,4 +272,5 @@ module _ (d : ℕ) (is : isDelimiter d ≡ true) (s : List ℕ) where
   judged-only x (broken (at-names none-fits)) = names-break none-fits (lineAt false d s 0) refl
   judged-only x (broken (at-line r rest f h goes-on no-line)) =
       on-values r rest f h x
-      (breaks (length (reportText d r)) (r .values) rest (f .then) (values-at r rest h) goes-on no-line (length-append (line d (r .names)) (lines d (r .values))))
+      (breaks (length (reportText d r)) (r .values) rest (f .then) (values-at r rest h) goes-on no-line
+      (length-append (line d (r .names)) (lines d (r .values))))

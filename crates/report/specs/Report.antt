@@ -40,7 +40,7 @@ pub record Rows : Type 0 where
   pub names : List (List ℕ)
   pub values : List (List (List ℕ))
 
-pub record Fits (r : Rows) : Type 0 where
+pub record RowsFit (r : Rows) : Type 0 where
   pub first : NameLine (r .names)
   pub then : Each (ValueLine (length (r .names))) (r .values)
 
@@ -49,14 +49,14 @@ reportText d r = lines d (r .names ∷ r .values)
 
 -- The text is the report of these rows.
 pub record Report (d : ℕ) (r : Rows) (text : List ℕ) : Type 0 where
-  pub fits : Fits r
+  pub fits : RowsFit r
   pub is : text ≡ reportText d r
 
 -- "7, reading with the start of the first line that doesn't fit (65 names too)": it begins at p. No line of names begins the text; or the lines before p
 -- are those of a report, the text goes on, and no line of as many values follows them.
 pub data Breaks (d : ℕ) (text : List ℕ) : ℕ → Type 0 where
   at-names : ((row : List (List ℕ)) (rest : List ℕ) → NameLine row → text ≡ line d row ++ rest → ⊥) → Breaks d text 0
-  at-line : (r : Rows) (rest : List ℕ) → Fits r → text ≡ reportText d r ++ rest → (rest ≡ [] → ⊥)
+  at-line : (r : Rows) (rest : List ℕ) → RowsFit r → text ≡ reportText d r ++ rest → (rest ≡ [] → ⊥)
       → ((row : List (List ℕ)) (after : List ℕ) → ValueLine (length (r .names)) row → rest ≡ line d row ++ after → ⊥)
       → Breaks d text (length (reportText d r))
 

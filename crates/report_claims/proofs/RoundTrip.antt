@@ -13,7 +13,7 @@ use Rattle.field.specs.Part.{part}
 use Rattle.field.proofs.Parts.{part-is, rest-is}
 use Rattle.delimited.specs.Lines.{isDelimiter, others, line, lines, placesOf, cellsOf, fields, Each, none, and, Parts, no-more, part-and}
 use Rattle.delimited.proofs.Lines.{line-some, each-so}
-use Rattle.report.specs.Report.{Rows, Fits, reportText, Report, Told, told}
+use Rattle.report.specs.Report.{Rows, RowsFit, reportText, Report, Told, told}
 use Rattle.report.specs.Reading.{judged, readReport}
 use Rattle.report.specs.declared.Judged.the-variants.{Whole}
 use Rattle.report.proofs.Reports.{taken, judged-only}
@@ -75,7 +75,8 @@ one-parts : {s cells : List ℕ} {xs ys : List (List ℕ)} → Parts s cells xs 
 one-parts no-more no-more = refl
 one-parts {s} (part-and {p = p} {n = n} i a) (part-and j b) = ap (λ (l : List (List ℕ)). part s p n ∷ l) (one-parts a b)
 
-rows-same : (many : ℕ) → 1 ≤ many → (ls ks : List (List (List ℕ))) → Each (λ row. length row ≡ many) ls → Each (λ row. length row ≡ many) ks → fields ls ≡ fields ks
+rows-same : (many : ℕ) → 1 ≤ many → (ls ks : List (List (List ℕ))) → Each (λ row. length row ≡ many) ls → Each (λ row. length row ≡ many) ks
+    → fields ls ≡ fields ks
     → ls ≡ ks
 unfolding fields
 rows-same many some [] [] none none h = refl
@@ -118,7 +119,8 @@ reads-as d s room t e = go (read-report-exactly d s room .0) e
 reads-back : (d : ℕ) (s : List ℕ) (room : ℕ) (t : Told) → ReadAs d s room t → readReport d s room ≡ done t
 reads-back d s room t h =
     let same = h .gives in
-    read-report-exactly d s room .1 (done (told d (h .rows))) (report-read (h .rows) (h .delimiter) (h .is) (subst (λ (x : Told). length (x .cells) ≤ room) same (h .room-for)))
+    read-report-exactly d s room .1 (done (told d (h .rows))) (report-read (h .rows) (h .delimiter) (h .is)
+    (subst (λ (x : Told). length (x .cells) ≤ room) same (h .room-for)))
     ∙ ap done (sym same)
 
 pub read-exactly : (d : ℕ) (s : List ℕ) (room : ℕ) (t : Told) → readReport d s room ≡ done t ↔ ReadAs d s room t

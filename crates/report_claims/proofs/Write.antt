@@ -30,7 +30,7 @@ module _ (source cells : List ℕ) (many d : ℕ) where
   unfolding fields
   lines-rows some few h = go (lines-given d source many false many cells some (omega arith) h)
     where
-      go : lines.Given d source many false many cells → (r : Rows) × Given source cells many r
+      go : lines.Rest d source many false many cells → (r : Rows) × Given source cells many r
       go (over v e parts text) = absurd (false≢true v)
       go (goes-on row ls long each after parts text) = (
         record { names = row; values = ls },
@@ -45,7 +45,8 @@ module _ (source cells : List ℕ) (many d : ℕ) where
     -- within its ranges
     written-as : mayWrite d many ≡ true → written source cells many d room
         ≡ cond (areLines source many false many cells)
-        (cond (leb (length (textFrom d source many many cells)) room) (done (textFrom d source many many cells)) (refused tooLittleRoom 0)) (refused notARecord 0)
+        (cond (leb (length (textFrom d source many many cells)) room) (done (textFrom d source many many cells)) (refused tooLittleRoom 0))
+        (refused notARecord 0)
     unfolding written writeRefusal
     written-as h = rw h (go (areLines source many false many cells) (leb (length (textFrom d source many many cells)) room))
       where
@@ -71,7 +72,8 @@ module _ (source cells : List ℕ) (many d : ℕ) where
     no-range true e n = absurd (n e)
     no-range false e n = e
 
-    no-lines : (b : Bool) → areLines source many false many cells ≡ b → (areLines source many false many cells ≡ true → ⊥) → areLines source many false many cells ≡ false
+    no-lines : (b : Bool) → areLines source many false many cells ≡ b → (areLines source many false many cells ≡ true → ⊥)
+        → areLines source many false many cells ≡ false
     no-lines true e n = absurd (n e)
     no-lines false e n = e
 

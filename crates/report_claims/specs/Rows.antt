@@ -8,7 +8,7 @@ use Rattle.counts.specs.Limits.{columns}
 use Rattle.counts.specs.Refusals.{outOfRange, notARecord, tooLittleRoom}
 use Rattle.counts.specs.Result.{Result, refused, done}
 use Rattle.delimited.specs.Lines.{isDelimiter, fields, Parts}
-use Rattle.report.specs.Report.{Rows, Fits, reportText, Report, Breaks, Told, told}
+use Rattle.report.specs.Report.{Rows, RowsFit, reportText, Report, Breaks, Told, told}
 
 -- read_report: "Refusals: 11 for delimiter [..]; then 7, reading with the start of the first line that doesn't fit (65 names too); then 8."
 pub data ReadReportRow (d : ℕ) (text : List ℕ) (room : ℕ) : Result Told → Type 0 where
@@ -19,7 +19,7 @@ pub data ReadReportRow (d : ℕ) (text : List ℕ) (room : ℕ) : Result Told �
 
 -- The cells are the names and values of these rows, in order, as parts of the source, and there are as many names as columns are given.
 pub record Given (source cells : List ℕ) (many : ℕ) (r : Rows) : Type 0 where
-  pub fits : Fits r
+  pub fits : RowsFit r
   pub as-many : length (r .names) ≡ many
   pub parts : Parts source cells (fields (r .names ∷ r .values))
 

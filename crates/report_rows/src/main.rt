@@ -84,12 +84,21 @@ fn read_rest() {
     }
 }
 
+// A report that is too long for the program: the delimiter goes first, as in the call.
+fn refuse_long(delimiter: u8) {
+    if delimited::is_delimiter(delimiter) {
+        print_refusal(counts::TOO_LITTLE_ROOM, 0);
+    } else {
+        print_refusal(counts::OUT_OF_RANGE, 0);
+    }
+}
+
 fn main() {
     let mut file = [0u8; ROOM];
     let n = io::read_full(STDIN_FILENO, &mut file);
     if n == ROOM {
         read_rest();
-        print_refusal(counts::TOO_LITTLE_ROOM, 0);
+        refuse_long(delimiter());
     } else {
         print_report(&file[..n], delimiter());
     }

@@ -18,10 +18,10 @@ use Rattle.report_write.proofs.Fields.{IsCell, tested-cell, cell-tested
 
 module _ (d : ℕ) (source : List ℕ) (many : ℕ) where
   -- from a cell on, with `left` fields of its line to come: nothing, where a line of values would begin; or the rest of a line and lines after it
-  pub data Given (values : Bool) (left : ℕ) (cells : List ℕ) : Type 0 where
-    over : values ≡ true → left ≡ many → Parts source cells [] → textFrom d source many left cells ≡ [] → Given values left cells
+  pub data Rest (values : Bool) (left : ℕ) (cells : List ℕ) : Type 0 where
+    over : values ≡ true → left ≡ many → Parts source cells [] → textFrom d source many left cells ≡ [] → Rest values left cells
     goes-on : (row : List (List ℕ)) (ls : List (List (List ℕ))) → length row ≡ left → Each (Field values) row → Each (ValueLine many) ls
-        → Parts source cells (row ++ fields ls) → textFrom d source many left cells ≡ line d row ++ lines d ls → Given values left cells
+        → Parts source cells (row ++ fields ls) → textFrom d source many left cells ≡ line d row ++ lines d ls → Rest values left cells
 
   -- a field, the delimiter and a line are a line
   join : (x l k : List ℕ) → (x ++ (d ∷ [])) ++ (l ++ k) ≡ (x ++ (d ∷ l)) ++ k
@@ -36,8 +36,8 @@ module _ (d : ℕ) (source : List ℕ) (many : ℕ) where
   or-same false = refl
 
   -- one cell more in front: the last of its line
-  last-cell : (values : Bool) (left p n : ℕ) (cells : List ℕ) → left ≡ 1 → IsCell values source p n → Given (values || true) many cells
-      → Given values left (p ∷ (n ∷ cells))
+  last-cell : (values : Bool) (left p n : ℕ) (cells : List ℕ) → left ≡ 1 → IsCell values source p n → Rest (values || true) many cells
+      → Rest values left (p ∷ (n ∷ cells))
   unfolding textFrom fields lines
   last-cell values left p n cells one c (over v m parts text) =
       goes-on (part source p n ∷ []) [] (omega arith) (and (c .is) none) none (part-and (c .inside) parts)
@@ -48,8 +48,8 @@ module _ (d : ℕ) (source : List ℕ) (many : ℕ) where
       (rw (one, text, line-last))
 
   -- or not the last
-  more-cell : (values : Bool) (left p n : ℕ) (cells : List ℕ) → 1 < left → left ≤ many → IsCell values source p n → Given values (left - 1) cells
-      → Given values left (p ∷ (n ∷ cells))
+  more-cell : (values : Bool) (left p n : ℕ) (cells : List ℕ) → 1 < left → left ≤ many → IsCell values source p n → Rest values (left - 1) cells
+      → Rest values left (p ∷ (n ∷ cells))
   unfolding textFrom fields
   more-cell values left p n cells many-left few c (over v m parts text) = absurd (omega arith)
   more-cell values left p n cells many-left few c (goes-on [] ls long each lines-after parts text) = absurd (omega arith)
@@ -57,7 +57,8 @@ module _ (d : ℕ) (source : List ℕ) (many : ℕ) where
       goes-on (part source p n ∷ (y ∷ ys)) ls (omega arith) (and (c .is) each) lines-after (part-and (c .inside) parts)
       (rw (ne-eqb left 1 (λ e. omega arith), text, line-more) (join (part source p n) (line d (y ∷ ys)) (lines d ls)))
 
-  pub lines-given : (values : Bool) (left : ℕ) (cells : List ℕ) → 1 ≤ left → left ≤ many → areLines source many values left cells ≡ true → Given values left cells
+  pub lines-given : (values : Bool) (left : ℕ) (cells : List ℕ) → 1 ≤ left → left ≤ many → areLines source many values left cells ≡ true
+      → Rest values left cells
   unfolding areLines textFrom
   lines-given values left [] some few h =
       over (and-left values (eqb left many) h) (eqb-true left many (and-right values (eqb left many) h)) no-more refl
@@ -81,7 +82,7 @@ module _ (d : ℕ) (source : List ℕ) (many : ℕ) where
       after-few true e = omega arith
       after-few false e = omega arith
 
-      by-left : (b : Bool) → eqb left 1 ≡ b → Given (values || b) (cond b many (left - 1)) cells → Given values left (p ∷ (n ∷ cells))
+      by-left : (b : Bool) → eqb left 1 ≡ b → Rest (values || b) (cond b many (left - 1)) cells → Rest values left (p ∷ (n ∷ cells))
       by-left true e g = last-cell values left p n cells (eqb-true left 1 e) cell g
       by-left false e g = more-cell values left p n cells (no-one (eqb-false left 1 e)) few cell (rw (or-same values) at g)
 
@@ -161,7 +162,8 @@ module _ (d : ℕ) (source : List ℕ) (many : ℕ) where
             ∙ ap (λ (z : List ℕ). line d (z ∷ (y ∷ ys)) ++ after) (c .bytes);
       }
 
-  line-given : (values : Bool) (row xs : List (List ℕ)) (cells : List ℕ) → 1 ≤ many → length row ≡ many → Each (Field values) row → Parts source cells (row ++ xs)
+  line-given : (values : Bool) (row xs : List (List ℕ)) (cells : List ℕ) → 1 ≤ many → length row ≡ many → Each (Field values) row → Parts source cells
+      (row ++ xs)
       → After values many cells row xs
   line-given values [] xs cells some e each parts = absurd (omega arith)
   line-given values (x ∷ row) xs cells some e each parts = row-given values x row xs many cells (sym e) each parts

@@ -38,7 +38,8 @@ unfolding part
 handed-on source p n = let w : p + n - p ≡ n = omega arith in rw w
 
 module _ (values : Bool) (source : List ℕ) (p n : ℕ) where
-  pub cell-inside : (r : Bool) → p ≤ length source → n ≤ length source - p → r ≡ isField values (take (p + n - p) (drop p source)) → r ≡ isCell values source p n
+  pub cell-inside : (r : Bool) → p ≤ length source → n ≤ length source - p → r ≡ isField values (take (p + n - p) (drop p source))
+      → r ≡ isCell values source p n
   unfolding isCell
   cell-inside r h l q = rw (le-leb (p + n) (length source) (omega arith)) (q ∙ ap (isField values) (handed-on source p n))
 
@@ -95,16 +96,19 @@ module _ (source cells : List ℕ) (many : ℕ) (values : Bool) (left k : ℕ) w
 
   -- of cells that are lines: the one at k is a part of the source, and the cells after it are lines
   module _ (inv : areLines source many values left (drop k cells) ≡ true) (h : k + 1 < length cells) where
-    both : (isCell values source (getD cells k 0) (getD cells (k + 1) 0) && areLines source many (values || eqb left 1) (leftAfter many left) (drop (k + 2) cells)) ≡ true
+    both : (isCell values source (getD cells k 0) (getD cells (k + 1) 0) && areLines source many (values || eqb left 1) (leftAfter many left)
+        (drop (k + 2) cells)) ≡ true
     both = sym (lines-turn h) ∙ inv
 
     pub cell-here : IsCell values source (getD cells k 0) (getD cells (k + 1) 0)
     cell-here = tested-cell values source (getD cells k 0) (getD cells (k + 1) 0)
-        (and-left (isCell values source (getD cells k 0) (getD cells (k + 1) 0)) (areLines source many (values || eqb left 1) (leftAfter many left) (drop (k + 2) cells)) both)
+        (and-left (isCell values source (getD cells k 0) (getD cells (k + 1) 0))
+        (areLines source many (values || eqb left 1) (leftAfter many left) (drop (k + 2) cells)) both)
 
     pub lines-after : areLines source many (values || eqb left 1) (leftAfter many left) (drop (k + 2) cells) ≡ true
     lines-after =
-        and-right (isCell values source (getD cells k 0) (getD cells (k + 1) 0)) (areLines source many (values || eqb left 1) (leftAfter many left) (drop (k + 2) cells)) both
+        and-right (isCell values source (getD cells k 0) (getD cells (k + 1) 0))
+        (areLines source many (values || eqb left 1) (leftAfter many left) (drop (k + 2) cells)) both
 
 -- ---- the text of the cells
 
@@ -196,7 +200,8 @@ module _ (source cells : List ℕ) (many d left k free : ℕ) (e : Bool) (room :
         go true = omega (arith, inside-source source cells many left k some (room .here) h)
         go false = omega (arith, inside-source source cells many left k some (room .here) h)
 
-    long : length (textFrom d source many left (drop k cells)) ≡ getD cells (k + 1) 0 + width + length (textFrom d source many (leftAfter many left) (drop (k + 2) cells))
+    long : length (textFrom d source many left (drop k cells)) ≡ getD cells (k + 1) 0 + width + length
+        (textFrom d source many (leftAfter many left) (drop (k + 2) cells))
     long = rw is (length-turn d source cells many left k h (inside-source source cells many left k some (room .here) h))
 
     pub no-room : free < getD cells (k + 1) 0 + width → false ≡ e

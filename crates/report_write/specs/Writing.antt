@@ -1,5 +1,4 @@
--- A report as it is written, cell by cell (document 02, P1). Need not be believed: `writes-report` of the page of claims ties it to `Report`. A cell is a part
--- of the source, by its place and length; `left` is how many fields of its line are still to come, and `values` tells that the line of names is over.
+-- What `write_report` answers and leaves (document 02, P1).
 use Prim.Native.Nat.{ℕ, _+_, _-_}
 use mathlib.Core.Bool.{Bool, true, false, cond, _&&_, _||_}
 use mathlib.Core.List.{List, [], _∷_, _++_}
@@ -14,6 +13,11 @@ use Rattle.delimited.specs.Lines.{isDelimiter, separator}
 use Rattle.report.specs.Reading.{fieldAt, onField}
 use Rattle.report_write.specs.declared.ReportWritten.{ReportWritten}
 use Rattle.report_write.specs.declared.ReportWritten.the-variants.{Bytes, Refused}
+
+-- ---- Need not be believed: a report as it is written, cell by cell. `writes-report` of the page of claims ties it to `Report`.
+
+-- A cell is a part of the source, by its place and length; `left` is how many fields of its line are still to come, and `values` tells that the line of
+-- names is over.
 
 -- the bytes are one name, or one value
 unfoldable pub isField : Bool → List ℕ → Bool
@@ -52,7 +56,7 @@ writeRefusal source cells many d room =
     (cond (areLines source many false many cells) (cond (leb (length (textFrom d source many many cells)) room) 0 tooLittleRoom) notARecord)
     outOfRange
 
--- what `write_report` answers, and what it leaves in the lent output
+-- the text, or the refusal
 unfoldable pub written : List ℕ → List ℕ → ℕ → ℕ → ℕ → Result (List ℕ)
 written source cells many d room =
     let no = writeRefusal source cells many d room in
@@ -60,6 +64,7 @@ written source cells many d room =
 
 -- ---- what the call returns and leaves
 
+-- The text goes to the front of the lent output; "a refusal changes no lent byte or entry".
 abbrev pub filled : Result (List ℕ) → List ℕ → List ℕ
 filled (done text) out = put out 0 text
 filled (refused number place) out = out

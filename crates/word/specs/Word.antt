@@ -45,6 +45,18 @@ abbrev pub whichOf : List Spelling → List ℕ → ℕ → ℕ → Word
 whichOf [] s a n = Name
 whichOf (r ∷ rs) s a n = cond (eqb n (length (r .letters)) && hasAt s a (r .letters)) (r .word) (whichOf rs s a n)
 
+unfoldable pub whichWord : List ℕ → ℕ → ℕ → Word
+whichWord s a n = whichOf reserved s a n
+
+-- "Word: an ASCII letter, then ASCII letters, digits or `_`; 1 to 255 bytes, and a longer run is no token; case counts. `TIME` directly
+-- followed by `>=` makes the one token `TIME>=`.": from the letter at i on
+unfoldable pub wordRead : List ℕ → ℕ → WordRead
+wordRead s i =
+    let e = runEnd isWordByte s i in
+    cond (hasAt s i (ascii "TIME>=")) (Is TimeGe (i + 6)) (cond (ltb (i + wordBytes) e) NoWord (Is (whichWord s i (e - i)) e))
+
+-- ---- Need not be believed: as code tests it. `reads-report` of the page of claims ties it to `Name`.
+
 -- whether it is a name
 abbrev pub isName : Word → Bool
 isName Job = false
@@ -61,13 +73,3 @@ isName Immediate = false
 isName Other = false
 isName Name = true
 isName TimeGe = false
-
-unfoldable pub whichWord : List ℕ → ℕ → ℕ → Word
-whichWord s a n = whichOf reserved s a n
-
--- "Word: an ASCII letter, then ASCII letters, digits or `_`; 1 to 255 bytes, and a longer run is no token; case counts. `TIME` directly
--- followed by `>=` makes the one token `TIME>=`.": from the letter at i on
-unfoldable pub wordRead : List ℕ → ℕ → WordRead
-wordRead s i =
-    let e = runEnd isWordByte s i in
-    cond (hasAt s i (ascii "TIME>=")) (Is TimeGe (i + 6)) (cond (ltb (i + wordBytes) e) NoWord (Is (whichWord s i (e - i)) e))

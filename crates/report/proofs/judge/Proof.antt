@@ -18,10 +18,15 @@ returns : tie.Need-returns
 returns c = no-names _ _ _ (c .before .before .line-at .ensures) (c .enum-told .given .1)
 
 lines-from-requires : tie.Need-lines-from-requires
-lines-from-requires c κs = (c .before .before .before .before .before .before .pre, names-inside _ _ _ (c .before .before .before .before .line-at .ensures) _ _ (c .before .before .n .given .1) (c .before .before .before .before .before .before .pre))
+lines-from-requires c κs = (
+  c .before .before .before .before .before .before .pre,
+  names-inside _ _ _
+      (c .before .before .before .before .line-at .ensures) _ _ (c .before .before .n .given .1) (c .before .before .before .before .before .before .pre),
+)
 
 returns-2 : tie.Need-returns-2
-returns-2 c = names-then _ _ _ (c .before .before .before .before .before .line-at .ensures) _ _ (c .before .before .before .n .given .1) _ (c .before .if1 .taken) (c .lines-from .ensures)
+returns-2 c = names-then _ _ _ (c .before .before .before .before .before .line-at .ensures) _ _ (c .before .before .before .n .given .1) _
+    (c .before .if1 .taken) (c .lines-from .ensures)
 
 returns-3 : tie.Need-returns-3
 returns-3 c = too-many-names _ _ _ (c .before .before .before .before .line-at .ensures) _ _ (c .before .before .n .given .1) (c .if1 .left)

@@ -27,34 +27,50 @@ enum-told : tie.Need-enum-told Inv-loop μ-loop
 enum-told c = search needs
 
 returns : tie.Need-returns Inv-loop μ-loop
-returns c = no-field _ _ _ _ _ _ (c .before .before .before .before .loop .inv) (c .before .before .before .loop-test .taken) _ (c .before .before .field-at .ensures) (c .enum-told .given .1)
+returns c = no-field _ _ _ _ _ _ (c .before .before .before .before .loop .inv) (c .before .before .before .loop-test .taken) _
+    (c .before .before .field-at .ensures) (c .enum-told .given .1)
 
 add-k : tie.Need-add-k Inv-loop μ-loop
 add-k c = omega (arith, c .before .before .before .before .before .loop .inv .few)
 
 separator-at-requires : tie.Need-separator-at-requires Inv-loop μ-loop
-separator-at-requires c κs = field-room _ _ _ _ _ _ (c .before .before .before .before .before .loop .inv) (c .before .before .before .before .loop-test .taken) _ (c .before .before .before .field-at .ensures) _ (c .before .end .given .1) .1
+separator-at-requires c κs = field-room _ _ _ _ _ _ (c .before .before .before .before .before .loop .inv)
+    (c .before .before .before .before .loop-test .taken) _ (c .before .before .before .field-at .ensures) _ (c .before .end .given .1) .1
 
 enum-known-next : tie.Need-enum-known-next Inv-loop μ-loop
 enum-known-next c = search needs
 
 loop-less : tie.Need-loop-less Inv-loop μ-loop
-loop-less c = omega (arith, another-ahead _ _ _ _ _ _ (c .before .before .before .before .before .before .before .before .before .loop .inv) (c .before .before .before .before .before .before .before .before .loop-test .taken) _ (c .before .before .before .before .before .before .before .field-at .ensures) _ (c .before .before .before .before .before .end .given .1) _ (c .before .before .before .separator-at .ensures) _ (c .before .next .given .1))
+loop-less c = omega (
+  arith,
+  another-ahead _ _ _ _ _ _ (c .before .before .before .before .before .before .before .before .before .loop .inv)
+      (c .before .before .before .before .before .before .before .before .loop-test .taken) _
+      (c .before .before .before .before .before .before .before .field-at .ensures) _ (c .before .before .before .before .before .end .given .1) _
+      (c .before .before .before .separator-at .ensures) _ (c .before .next .given .1),
+)
 
 loop-again : tie.Need-loop-again Inv-loop μ-loop
-loop-again c = another _ _ _ _ _ _ (c .before .before .before .before .before .before .before .before .before .loop .inv) (c .before .before .before .before .before .before .before .before .loop-test .taken) _ (c .before .before .before .before .before .before .before .field-at .ensures) _ (c .before .before .before .before .before .end .given .1) _ (c .before .before .before .separator-at .ensures) _ (c .before .next .given .1)
+loop-again c = another _ _ _ _ _ _ (c .before .before .before .before .before .before .before .before .before .loop .inv)
+    (c .before .before .before .before .before .before .before .before .loop-test .taken) _
+    (c .before .before .before .before .before .before .before .field-at .ensures) _ (c .before .before .before .before .before .end .given .1) _
+    (c .before .before .before .separator-at .ensures) _ (c .before .next .given .1)
 
 enum-known-next-2 : tie.Need-enum-known-next-2 Inv-loop μ-loop
 enum-known-next-2 c = search needs
 
 returns-2 : tie.Need-returns-2 Inv-loop μ-loop
-returns-2 c = line-over _ _ _ _ _ _ (c .before .before .before .before .before .before .before .before .before .loop .inv) (c .before .before .before .before .before .before .before .before .loop-test .taken) _ (c .before .before .before .before .before .before .before .field-at .ensures) _ (c .before .before .before .before .before .end .given .1) _ (c .before .before .before .separator-at .ensures) _ (c .before .next2 .given .1)
+returns-2 c = line-over _ _ _ _ _ _ (c .before .before .before .before .before .before .before .before .before .loop .inv)
+    (c .before .before .before .before .before .before .before .before .loop-test .taken) _
+    (c .before .before .before .before .before .before .before .field-at .ensures) _ (c .before .before .before .before .before .end .given .1) _
+    (c .before .before .before .separator-at .ensures) _ (c .before .next2 .given .1)
 
 enum-told-2 : tie.Need-enum-told-2 Inv-loop μ-loop
 enum-told-2 c = search needs
 
 returns-3 : tie.Need-returns-3 Inv-loop μ-loop
-returns-3 c = neither _ _ _ _ _ _ (c .before .before .before .before .before .before .before .before .loop .inv) (c .before .before .before .before .before .before .before .loop-test .taken) _ (c .before .before .before .before .before .before .field-at .ensures) _ (c .before .before .before .before .end .given .1) _ (c .before .before .separator-at .ensures) (c .enum-told2 .given .1)
+returns-3 c = neither _ _ _ _ _ _ (c .before .before .before .before .before .before .before .before .loop .inv)
+    (c .before .before .before .before .before .before .before .loop-test .taken) _ (c .before .before .before .before .before .before .field-at .ensures) _
+    (c .before .before .before .before .end .given .1) _ (c .before .before .separator-at .ensures) (c .enum-told2 .given .1)
 
 returns-4 : tie.Need-returns-4 Inv-loop μ-loop
 returns-4 c = fields-past _ _ _ _ _ _ (c .before .loop .inv) (c .loop-test .left)

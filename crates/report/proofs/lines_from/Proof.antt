@@ -27,19 +27,29 @@ enum-told : tie.Need-enum-told Inv-loop μ-loop
 enum-told c = search needs
 
 returns : tie.Need-returns Inv-loop μ-loop
-returns c = other-count _ (c .before .before .before .before .before .before .before .before .pre .0) _ _ _ _ _ (c .before .before .before .before .before .before .loop .inv) (c .before .before .before .before .before .loop-test .taken) _ (c .before .before .before .before .line-at .ensures) _ _ (c .before .before .n .given .1) (c .if1 .left)
+returns c = other-count _ (c .before .before .before .before .before .before .before .before .pre .0) _ _ _ _ _
+    (c .before .before .before .before .before .before .loop .inv) (c .before .before .before .before .before .loop-test .taken) _
+    (c .before .before .before .before .line-at .ensures) _ _ (c .before .before .n .given .1) (c .if1 .left)
 
 add-k : tie.Need-add-k Inv-loop μ-loop
 add-k c = omega (arith, c .before .before .before .before .before .before .loop .inv .few)
 
 loop-less : tie.Need-loop-less Inv-loop μ-loop
-loop-less c = omega (arith, line-ahead _ (c .before .before .before .before .before .before .before .before .pre .0) _ _ _ _ _ (c .before .before .before .before .before .before .loop .inv) (c .before .before .before .before .before .loop-test .taken) _ (c .before .before .before .before .line-at .ensures) _ _ (c .before .before .n .given .1))
+loop-less c = omega (
+  arith,
+  line-ahead _ (c .before .before .before .before .before .before .before .before .pre .0) _ _ _ _ _
+      (c .before .before .before .before .before .before .loop .inv) (c .before .before .before .before .before .loop-test .taken) _
+      (c .before .before .before .before .line-at .ensures) _ _ (c .before .before .n .given .1),
+)
 
 loop-again : tie.Need-loop-again Inv-loop μ-loop
-loop-again c = another-line _ (c .before .before .before .before .before .before .before .before .pre .0) _ _ _ _ _ (c .before .before .before .before .before .before .loop .inv) (c .before .before .before .before .before .loop-test .taken) _ (c .before .before .before .before .line-at .ensures) _ _ (c .before .before .n .given .1) (c .if1 .taken)
+loop-again c = another-line _ (c .before .before .before .before .before .before .before .before .pre .0) _ _ _ _ _
+    (c .before .before .before .before .before .before .loop .inv) (c .before .before .before .before .before .loop-test .taken) _
+    (c .before .before .before .before .line-at .ensures) _ _ (c .before .before .n .given .1) (c .if1 .taken)
 
 returns-2 : tie.Need-returns-2 Inv-loop μ-loop
-returns-2 c = no-line _ (c .before .before .before .before .before .before .pre .0) _ _ _ _ _ (c .before .before .before .before .loop .inv) (c .before .before .before .loop-test .taken) _ (c .before .before .line-at .ensures) (c .enum-told .given .1)
+returns-2 c = no-line _ (c .before .before .before .before .before .before .pre .0) _ _ _ _ _ (c .before .before .before .before .loop .inv)
+    (c .before .before .before .loop-test .taken) _ (c .before .before .line-at .ensures) (c .enum-told .given .1)
 
 returns-3 : tie.Need-returns-3 Inv-loop μ-loop
 returns-3 c = lines-past _ _ _ _ _ _ (c .before .loop .inv) (c .loop-test .left)

@@ -52,13 +52,16 @@ loop-less c = omega arith
 
 loop-again : tie.Need-loop-again Inv-loop μ-loop
 loop-again c = (
-  cell-yes _ _ _ _ _ _ (c .before .before .before .before .before .before .loop .inv .0) (c .before .before .before .before .before .loop-test .taken) (c .before .before .is-cell .ensures) (c .before .if1 .taken) (c .left-after .ensures),
-  rw (c .left-after .ensures) (left-some _ _ (c .before .before .before .before .before .before .before .before .before .pre) (c .before .before .before .before .before .before .loop .inv .1)),
+  cell-yes _ _ _ _ _ _ (c .before .before .before .before .before .before .loop .inv .0) (c .before .before .before .before .before .loop-test .taken)
+      (c .before .before .is-cell .ensures) (c .before .if1 .taken) (c .left-after .ensures),
+  rw (c .left-after .ensures) (left-some _ _ (c .before .before .before .before .before .before .before .before .before .pre)
+      (c .before .before .before .before .before .before .loop .inv .1)),
   omega arith,
 )
 
 returns : tie.Need-returns Inv-loop μ-loop
-returns c = cell-no _ _ _ _ _ _ (c .before .before .before .before .before .loop .inv .0) (c .before .before .before .before .loop-test .taken) (c .before .is-cell .ensures) (c .if1 .left)
+returns c = cell-no _ _ _ _ _ _ (c .before .before .before .before .before .loop .inv .0) (c .before .before .before .before .loop-test .taken)
+    (c .before .is-cell .ensures) (c .if1 .left)
 
 returns-2 : tie.Need-returns-2 Inv-loop μ-loop
 returns-2 c = no-cell _ _ _ _ _ _ (c .before .loop .inv .0) (c .loop-test .left) (c .before .loop .inv .2)

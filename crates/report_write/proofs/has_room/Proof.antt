@@ -36,10 +36,15 @@ separator-length-requires : tie.Need-separator-length-requires Inv-loop μ-loop
 separator-length-requires c κs = search needs
 
 add-needed-2 : tie.Need-add-needed-2 Inv-loop μ-loop
-add-needed-2 c = omega (arith, taken-fits _ _ _ _ _ _ _ _ (c .before .before .before .loop .inv) (c .before .before .before .before .before .before .pre .0) (c .before .before .loop-test .taken) _ (c .separator-length .ensures))
+add-needed-2 c = omega (
+  arith,
+  taken-fits _ _ _ _ _ _ _ _ (c .before .before .before .loop .inv) (c .before .before .before .before .before .before .pre .0)
+      (c .before .before .loop-test .taken) _ (c .separator-length .ensures),
+)
 
 returns : tie.Need-returns Inv-loop μ-loop
-returns c = no-room _ _ _ _ _ _ _ _ (c .before .before .before .before .loop .inv) (c .before .before .before .before .before .before .before .pre .0) (c .before .before .before .loop-test .taken) _ (c .before .separator-length .ensures) (c .if1 .taken)
+returns c = no-room _ _ _ _ _ _ _ _ (c .before .before .before .before .loop .inv) (c .before .before .before .before .before .before .before .pre .0)
+    (c .before .before .before .loop-test .taken) _ (c .before .separator-length .ensures) (c .if1 .taken)
 
 left-after-requires : tie.Need-left-after-requires Inv-loop μ-loop
 left-after-requires c κs = c .before .before .before .before .loop .inv .here .some
@@ -51,7 +56,9 @@ loop-less : tie.Need-loop-less Inv-loop μ-loop
 loop-less c = omega arith
 
 loop-again : tie.Need-loop-again Inv-loop μ-loop
-loop-again c = room-next _ _ _ _ _ _ _ _ (c .before .before .before .before .before .loop .inv) (c .before .before .before .before .before .before .before .before .pre .0) (c .before .before .before .before .loop-test .taken) _ (c .before .before .separator-length .ensures) _ (c .left-after .ensures) (c .before .if1 .left)
+loop-again c = room-next _ _ _ _ _ _ _ _ (c .before .before .before .before .before .loop .inv)
+    (c .before .before .before .before .before .before .before .before .pre .0) (c .before .before .before .before .loop-test .taken) _
+    (c .before .before .separator-length .ensures) _ (c .left-after .ensures) (c .before .if1 .left)
 
 returns-2 : tie.Need-returns-2 Inv-loop μ-loop
 returns-2 c = room-over _ _ _ _ _ _ _ _ (c .before .loop .inv) (c .loop-test .left)

@@ -27,7 +27,8 @@ same-length : tie.Need-same-length
 same-length c = search needs
 
 returns : tie.Need-returns
-returns c = then (as-bytes (c .before .before .before .before .before .before .put-bytes .ensures) (handed-on _ _ _)) (c .before .before .put-separator .ensures)
+returns c = then (as-bytes (c .before .before .before .before .before .before .put-bytes .ensures) (handed-on _ _ _))
+    (c .before .before .put-separator .ensures)
 
 pub put-cell-spec : {M : Type 1} → statement M
 put-cell-spec =

@@ -38,7 +38,9 @@ shared-slice-read-put-cell-2 : tie.Need-shared-slice-read-put-cell-2 Inv-loop μ
 shared-slice-read-put-cell-2 c = omega arith
 
 put-cell-requires : tie.Need-put-cell-requires Inv-loop μ-loop
-put-cell-requires c κs = cell-fits _ _ _ _ _ _ _ _ _ _ (c .before .before .before .before .loop .inv) (c .before .before .before .before .before .before .before .before .pre .0) (c .before .before .before .loop-test .taken) (c .before .before .before .before .before .before .before .before .pre .2)
+put-cell-requires c κs = cell-fits _ _ _ _ _ _ _ _ _ _ (c .before .before .before .before .loop .inv)
+    (c .before .before .before .before .before .before .before .before .pre .0) (c .before .before .before .loop-test .taken)
+    (c .before .before .before .before .before .before .before .before .pre .2)
 
 left-after-requires : tie.Need-left-after-requires Inv-loop μ-loop
 left-after-requires c κs = c .before .before .before .before .before .before .before .loop .inv .here .some
@@ -50,7 +52,10 @@ loop-less : tie.Need-loop-less Inv-loop μ-loop
 loop-less c = omega arith
 
 loop-again : tie.Need-loop-again Inv-loop μ-loop
-loop-again c = written-next _ _ _ _ _ _ _ _ _ _ (c .before .before .before .before .before .before .before .before .loop .inv) (c .before .before .before .before .before .before .before .before .before .before .before .before .pre .0) (c .before .before .before .before .before .before .before .loop-test .taken) _ _ _ (c .left-after .ensures) (c .before .before .before .put-cell .ensures)
+loop-again c = written-next _ _ _ _ _ _ _ _ _ _ (c .before .before .before .before .before .before .before .before .loop .inv)
+    (c .before .before .before .before .before .before .before .before .before .before .before .before .pre .0)
+    (c .before .before .before .before .before .before .before .loop-test .taken) _ _ _ (c .left-after .ensures)
+    (c .before .before .before .put-cell .ensures)
 
 same-length : tie.Need-same-length Inv-loop μ-loop
 same-length c = wrote-length (c .before .loop .inv .wrote)

@@ -14,7 +14,11 @@ are-lines-requires : tie.Need-are-lines-requires
 are-lines-requires c κs = may-tested _ _ _ (c .before .may-write .ensures) (c .if1 .taken)
 
 has-room-requires : tie.Need-has-room-requires
-has-room-requires c κs = (may-tested _ _ _ (c .before .before .before .may-write .ensures) (c .before .before .if1 .taken), sym (c .before .are-lines .ensures) ∙ c .if2 .taken)
+has-room-requires c κs = (
+  may-tested _ _ _ (c .before .before .before .may-write .ensures) (c .before .before .if1 .taken),
+  sym
+      (c .before .are-lines .ensures) ∙ c .if2 .taken,
+)
 
 returns : tie.Need-returns
 unfolding writeRefusal
