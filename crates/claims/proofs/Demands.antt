@@ -147,6 +147,7 @@ demand-1 =
       answer-leaves = λ b t c a e. answer-does b e t c a;
       collect-leaves = λ b p t out e. collect-does b e p t out;
       leaves-sound = λ b c e q. keeps b e c;
+      report-sized = λ d file room. (λ t e. rw e, λ number place e. rw e);
       offsets-written = offsets-stand;
       cells-written = λ d file cells t e. rw e;
       report-written = λ source cells many d out text e. rw e;

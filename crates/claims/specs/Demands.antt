@@ -131,6 +131,10 @@ pub record Demand1 : Type 0 where
   pub collect-leaves : (b : List ℕ) (p t : ℕ) (out : List ℕ) → soundBytes b ≡ true
       → abs (collectedBytes b p t (length out)) ≡ collect (abs b) p t (length out) .1
   pub leaves-sound : (b : List ℕ) (c : Call) → soundBytes b ≡ true → makesAnew c ≡ false → soundBytes (stepBytes b c .1) ≡ true
+  -- of a report its columns and its lines of values are returned, or the refusal
+  pub report-sized : (d : ℕ) (file : List ℕ) (room : ℕ) → let x = readReport d file room in
+      ((t : Told) → x ≡ done t → report.sized x ≡ done (t .columns, t .lines))
+      × ((number place : ℕ) → x ≡ refused number place → report.sized x ≡ refused number place)
   -- "On success, places beyond those written stay.": a name, a record, a report, a reply ("all records in order") stands at the start of the output, offsets
   -- and cells at the start of what is lent for them
   pub offsets-written : (file offsets os : List ℕ) → let x = readJob file (length offsets) in x ≡ done os → filled x offsets ≡ put offsets 0 os
