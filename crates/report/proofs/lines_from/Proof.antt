@@ -23,14 +23,6 @@ line-at-requires c κs = search needs
 enum-known-n : tie.Need-enum-known-n Inv-loop μ-loop
 enum-known-n c = search needs
 
-enum-told : tie.Need-enum-told Inv-loop μ-loop
-enum-told c = search needs
-
-returns : tie.Need-returns Inv-loop μ-loop
-returns c = other-count _ (c .before .before .before .before .before .before .before .before .pre .0) _ _ _ _ _
-    (c .before .before .before .before .before .before .loop .inv) (c .before .before .before .before .before .loop-test .taken) _
-    (c .before .before .before .before .line-at .ensures) _ _ (c .before .before .n .given .1) (c .if1 .left)
-
 add-k : tie.Need-add-k Inv-loop μ-loop
 add-k c = omega (arith, c .before .before .before .before .before .before .loop .inv .few)
 
@@ -46,6 +38,14 @@ loop-again : tie.Need-loop-again Inv-loop μ-loop
 loop-again c = another-line _ (c .before .before .before .before .before .before .before .before .pre .0) _ _ _ _ _
     (c .before .before .before .before .before .before .loop .inv) (c .before .before .before .before .before .loop-test .taken) _
     (c .before .before .before .before .line-at .ensures) _ _ (c .before .before .n .given .1) (c .if1 .taken)
+
+returns : tie.Need-returns Inv-loop μ-loop
+returns c = other-count _ (c .before .before .before .before .before .before .before .before .pre .0) _ _ _ _ _
+    (c .before .before .before .before .before .before .loop .inv) (c .before .before .before .before .before .loop-test .taken) _
+    (c .before .before .before .before .line-at .ensures) _ _ (c .before .before .n .given .1) (c .if1 .left)
+
+enum-told : tie.Need-enum-told Inv-loop μ-loop
+enum-told c = search needs
 
 returns-2 : tie.Need-returns-2 Inv-loop μ-loop
 returns-2 c = no-line _ (c .before .before .before .before .before .before .pre .0) _ _ _ _ _ (c .before .before .before .before .loop .inv)
