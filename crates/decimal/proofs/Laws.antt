@@ -3,7 +3,8 @@ use mathlib.Core.Path.{_≡_, refl, sym, ap, ap₂, _∙_, subst}
 use mathlib.Core.Bool.{true}
 use mathlib.Core.List.{List, [], _∷_, _++_}
 use Prim.Native.Nat.{ℕ, zero, suc, _+_, _-_, _*_, _/_, _%_, _^_, _≤_, _<_}
-use native.Mathlib.Nat.{pow-suc, pow-succ', mul-assoc, div-div-eq-div-mul, mod-eq-of-lt, mod-one, div-one, mul-add-div-right, mul-add-mod-self-right}
+use native.Mathlib.Nat.{pow-suc, pow-succ', pow-le-pow-right, mul-assoc, mod-eq-of-lt, mod-one, mul-add-div-right, mul-add-mod-self-right, div-add-mod', div-lt-iff-lt-mul}
+use native.Mathlib.Numerals.{add-one}
 use native.Mathlib.Omega.{arith}
 use lib.Arith.{mod-mul, digits-div, digits-lt}
 use lib.Dec.{leb}
@@ -15,6 +16,13 @@ use Rattle.decimal.specs.Digits.{digits, value, isDigit, allDigits}
 pub ten-pos : (w : ℕ) → 0 < 10 ^ w
 ten-pos zero = omega arith
 ten-pos (suc w) = let h : 0 < 10 ^ w = ten-pos w in omega (arith, pow-suc 10 w)
+
+-- a power is ten times the one below
+pub tenfold : (k : ℕ) → 10 ^ (k + 1) ≡ 10 ^ k * 10
+tenfold k = ap (λ (j : ℕ). 10 ^ j) (add-one k) ∙ pow-suc 10 k
+
+pub ten-le : (k m : ℕ) → k ≤ m → 10 ^ k ≤ 10 ^ m
+ten-le k m h = let ten : 0 < 10 = omega arith in pow-le-pow-right ten h
 
 pub length-digits : (w n : ℕ) → length (digits w n) ≡ w
 unfolding digits
@@ -37,15 +45,7 @@ value-mod (suc w) n =
 pub value-digits : (w n : ℕ) → n < 10 ^ w → value (digits w n) ≡ n
 value-digits w n h = value-mod w n ∙ mod-eq-of-lt h
 
--- ---- the last digit
-
-pub digits-snoc : (w n : ℕ) → digits (suc w) n ≡ digits w (n / 10) ++ (48 + n % 10) ∷ []
-unfolding digits
-digits-snoc zero n = ap (λ (k : ℕ). (48 + k % 10) ∷ []) (div-one n)
-digits-snoc (suc w) n =
-    ap₂ (λ (k : ℕ) (l : List ℕ). (48 + k % 10) ∷ l)
-    (ap (λ (k : ℕ). n / k) (pow-succ' 10 w) ∙ sym (div-div-eq-div-mul n 10 (10 ^ w)))
-    (digits-snoc w n)
+-- ---- the first digit, and what it leaves
 
 -- what stands above the field does not matter
 digits-above : (w q v : ℕ) → digits w (q * 10 ^ w + v) ≡ digits w v
@@ -58,6 +58,15 @@ digits-above (suc w) q v =
     (ap₂ (λ (k : ℕ) (l : List ℕ). (48 + k) ∷ l)
     (ap (λ (k : ℕ). k % 10) (mul-add-div-right (ten-pos w) (q * 10) v) ∙ mul-add-mod-self-right q 10 (v / p))
     (digits-above w (q * 10) v))
+
+digits-low : (w n : ℕ) → digits w (n % 10 ^ w) ≡ digits w n
+digits-low w n = sym (digits-above w (n / 10 ^ w) (n % 10 ^ w)) ∙ ap (digits w) (div-add-mod' n (10 ^ w))
+
+pub digits-first : (w n q v : ℕ) → n < 10 ^ suc w → q ≡ n / 10 ^ w → v ≡ n % 10 ^ w → (48 + q) ∷ digits w v ≡ digits (suc w) n
+unfolding digits
+digits-first w n q v h e f =
+    let small : n / 10 ^ w < 10 = div-lt-iff-lt-mul (ten-pos w) .1 (subst (λ (k : ℕ). n < k) (pow-succ' 10 w) h) in
+    ap₂ (λ (k : ℕ) (l : List ℕ). (48 + k) ∷ l) (e ∙ sym (mod-eq-of-lt small)) (ap (digits w) f ∙ digits-low w n)
 
 -- ---- digit bytes read and written again
 

@@ -1,6 +1,6 @@
 // Whole numbers as decimal digits, written and read: one function each for every width up to 16.
 ghost use mathlib.Core.Path.{_≡_};
-ghost use Prim.Native.Nat.{_+_, _^_, _≤_, _<_};
+ghost use Prim.Native.Nat.{_+_, _*_, _/_, _%_, _^_, _≤_, _<_};
 ghost use lib.ListN.{length};
 ghost use Rattle.field.specs.Part.{part, Wrote};
 ghost use Rattle.decimal.specs.Digits.{digits, plainWidth};
@@ -11,20 +11,65 @@ pub enum DigitsRead {
     NotDigits,
 }
 
-// Writes n as width digits from at on, and gives the place after them. That n fits the width is asked for, so that the digits may be
-// found from either end.
+// The power of ten at the k-th place of a field, from 0 on: each is ten times the one below. Where k is known to the compiler, so is the
+// power.
+fn ten_to(k: usize) -> u64
+    requires { ⌜ k ≤ 15 ⌝ }
+    ensures { λ r. ⌜ r ≡ 10 ^ k ⌝ }
+{
+    let mut power: u64 = 1;
+    let mut i = 0;
+    while i < k {
+        power = power * 10;
+        i += 1;
+    }
+    power
+}
+
+// How often a power goes into a number, and what is left of the number.
+struct Taken {
+    times: u8,
+    rest: u64,
+}
+
+// Takes power out of n as often as it goes, by subtracting it, and two of it at once where two go: the small gateway's processor does not
+// divide. Of a loop that subtracts one at a time the compiler makes a division again, since it knows what such a loop comes to.
+fn take_out(n: u64, power: u64) -> Taken
+    requires { ⌜ (n < 10 * power) × (power ≤ 10 ^ 15) ⌝ }
+    ensures { λ r. ⌜ (r .times ≡ n / power) × (r .rest ≡ n % power) ⌝ }
+{
+    let two = power + power;
+    let mut times = 0;
+    let mut rest = n;
+    while power <= rest {
+        if two <= rest {
+            rest -= two;
+            times += 2;
+        } else {
+            rest -= power;
+            times += 1;
+        }
+    }
+    Taken { times, rest }
+}
+
+// Writes n as width digits from at on, and gives the place after them. That n fits the width is asked for, so that each digit is what its
+// power leaves of the one before it.
 pub fn put_digits(out: &mut [u8], at: usize, width: usize, n: u64) -> usize
     requires { ⌜ (width ≤ 16) × (n < 10 ^ width) × (at + width ≤ length (now out)) ⌝ }
     ensures { λ r. ⌜ Wrote (now (out .entry)) at (digits width n) (now (out .exit)) r ⌝ }
 {
-    let mut i = width;
+    let mut left = width;
     let mut rest = n;
-    while 0 < i {
-        i -= 1;
-        out[at + i] = (48 + rest % 10) as u8;
-        rest = rest / 10;
+    let mut next = at;
+    while 0 < left {
+        left -= 1;
+        let digit = take_out(rest, ten_to(left));
+        out[next] = 48 + digit.times;
+        rest = digit.rest;
+        next += 1;
     }
-    at + width
+    next
 }
 
 // Reads the width digits from at on.

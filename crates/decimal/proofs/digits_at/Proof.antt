@@ -1,15 +1,14 @@
 -- `decimal::digits_at` meets its contract. The invariant: reading what is left, from acc on, gives the answer.
 --
-use mathlib.Core.Path.{_≡_, sym, ap, _∙_}
+use mathlib.Core.Path.{_≡_, sym, _∙_}
 use Prim.Native.Nat.{ℕ, _+_, _-_, _*_, _^_, _≤_, _<_}
-use native.Mathlib.Nat.{pow-suc, pow-le-pow-right}
-use native.Mathlib.Numerals.{add-one}
 use native.Mathlib.Omega.{arith}
 use lib.ListN.{getD}
 use denote.Ref.{now}
 use borrow.Author.Needs.{needs}
 use Rattle.field.specs.Part.{part}
 use Rattle.decimal.specs.Read.{digitsRead}
+use Rattle.decimal.proofs.Laws.{tenfold, ten-le}
 use Rattle.decimal.proofs.ReadLaws.{readFrom, read-start, read-end, read-short, read-stop, read-on, low-byte, high-byte, digit-byte}
 use Rattle.decimal.proofs.digits_at.Statement.{statement}
 use Rattle.decimal.proofs.digits_at.Tie as tie
@@ -25,15 +24,11 @@ abbrev μ-loop : tie.MeasureT-loop
 room : (acc i w : ℕ) → acc < 10 ^ i → i < w → w ≤ 16 → acc < 10 ^ 15
 room acc i w h hi hw =
     let le : i ≤ 15 = omega arith in
-    let ten : 0 < 10 = omega arith in
-    let e : 10 ^ i ≤ 10 ^ 15 = pow-le-pow-right ten le in
-    omega arith
+    omega (arith, ten-le i 15 le)
 
 -- one digit more
 more : (acc i x : ℕ) → acc < 10 ^ i → x < 10 → acc * 10 + x < 10 ^ (i + 1)
-more acc i x h hx =
-    let e : 10 ^ (i + 1) ≡ 10 ^ i * 10 = ap (λ (k : ℕ). 10 ^ k) (add-one i) ∙ pow-suc 10 i in
-    omega arith
+more acc i x h hx = omega (arith, tenfold i)
 
 returns : tie.Need-returns Inv-loop μ-loop
 returns c = read-short _ _ _ (omega arith) (omega arith)

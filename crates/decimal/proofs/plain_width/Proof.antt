@@ -1,10 +1,9 @@
 -- `decimal::plain_width` meets its contract. The invariant: no width below the one reached is wide enough.
 use Prim.Native.Nat.{ℕ, _-_, _^_, _≤_, _<_}
-use mathlib.Core.Path.{_≡_, ap, _∙_}
-use native.Mathlib.Nat.{pow-suc}
-use native.Mathlib.Numerals.{add-one}
+use mathlib.Core.Path.{_≡_}
 use native.Mathlib.Omega.{arith}
 use Rattle.decimal.specs.Digits.{plainWidth}
+use Rattle.decimal.proofs.Laws.{tenfold}
 use Rattle.decimal.proofs.PlainLaws.{plain-some, plain-le, plain-more}
 use Rattle.decimal.proofs.plain_width.Statement.{statement}
 use Rattle.decimal.proofs.plain_width.Tie as tie
@@ -38,7 +37,7 @@ loop-again : tie.Need-loop-again Inv-loop μ-loop
 loop-again c =
     let l = c .before .loop in
     let narrow = too-narrow (c .before .before .args .n) (l .width) (l .power) (c .loop-test .taken) (l .inv .2) in
-    (omega arith, omega arith, omega (arith, l .inv .2, ap (λ (k : ℕ). 10 ^ k) (add-one (l .width)) ∙ pow-suc 10 (l .width)))
+    (omega arith, omega arith, omega (arith, l .inv .2, tenfold (l .width)))
 
 returns : tie.Need-returns Inv-loop μ-loop
 returns c =
