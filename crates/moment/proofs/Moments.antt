@@ -133,9 +133,11 @@ module _ (s : List ℕ) (at : ℕ) (word : List ℕ) where
 
 -- ---- written field by field
 
-pub wrote-time : (d f g e : List ℕ) (at a b r : ℕ) (word : List ℕ) (time : ℕ) → WroteAfter d at word 2 (time / 10000) f a
-    → WroteAfter f a (ascii ":") 2 (time / 100 % 100) g b → WroteAfter g b (ascii ":") 2 (time % 100) e r → Wrote d at (word ++ timeBytes time) e r
-wrote-time d f g e at a b r word time u v w = as-bytes (then (then (u .wrote) (v .wrote)) (w .wrote)) (simp append-assoc)
+pub wrote-time : (d f g e : List ℕ) (at a b r : ℕ) (word : List ℕ) (time hour minute second : ℕ)
+    → (hour ≡ time / 10000) × (minute ≡ time / 100 % 100) × (second ≡ time % 100) → WroteAfter d at word 2 hour f a
+    → WroteAfter f a (ascii ":") 2 minute g b → WroteAfter g b (ascii ":") 2 second e r → Wrote d at (word ++ timeBytes time) e r
+wrote-time d f g e at a b r word time hour minute second (h, m, x) u v w =
+    as-bytes (then (then (u .wrote) (v .wrote)) (w .wrote)) (rw (h, m, x) (simp append-assoc))
 
 pub wrote-moment : (d f e : List ℕ) (at a r : ℕ) (word : List ℕ) (date time : ℕ) → WroteAfter d at word 8 date f a → Wrote f a (ascii " " ++ timeBytes time) e r
     → Wrote d at (word ++ momentBytes date time) e r

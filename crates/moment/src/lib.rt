@@ -70,9 +70,10 @@ pub fn put_time(out: &mut [u8], at: usize, word: &[u8], time: u32) -> usize
     requires { ⌜ (time < 1000000) × (at + length (now word) + 8 ≤ length (now out)) ⌝ }
     ensures { λ r. ⌜ Wrote (now (out .entry)) at (now (word .entry) ++ timeBytes time) (now (out .exit)) r ⌝ }
 {
-    let after_hour = labelled::put_after(out, at, word, 2, time / 10000);
-    let after_minute = labelled::put_after(out, after_hour, b":", 2, time / 100 % 100);
-    labelled::put_after(out, after_minute, b":", 2, time % 100)
+    let fields = calendar::fields_of(time);
+    let after_hour = labelled::put_after(out, at, word, 2, fields.high);
+    let after_minute = labelled::put_after(out, after_hour, b":", 2, fields.middle);
+    labelled::put_after(out, after_minute, b":", 2, fields.low)
 }
 
 // Writes word and after it a real date and time, and gives the place after them.

@@ -4,6 +4,9 @@ use borrow.Author.Needs.{needs}
 use Rattle.moment.proofs.put_time.Statement.{statement}
 use Rattle.moment.proofs.put_time.Tie as tie
 
+fields-of-requires : tie.Need-fields-of-requires
+fields-of-requires c κs = search needs
+
 put-after-requires : tie.Need-put-after-requires
 put-after-requires c κs = search needs
 
@@ -29,6 +32,7 @@ pub put-time-spec : {M : Type 1} → statement M
 put-time-spec =
     tie.close
     (tie.spec
+    fields-of-requires
     put-after-requires
     slice-aggregate-put-after
     put-after-requires-2
