@@ -1,11 +1,11 @@
--- Laws of `put`: two writes side by side are one write, and a write far off may be done first.
+-- Laws of `put`: two writes side by side are one write.
 use mathlib.Core.Path.{_≡_, refl, sym, ap, _∙_, subst}
 use mathlib.Core.List.{List, [], _∷_, _++_, append-assoc}
 use Prim.Native.Nat.{ℕ, suc, _+_, _≤_}
 use native.Mathlib.Nat.{add-zero, add-suc, suc-add}
 use native.Mathlib.Omega.{arith}
 use lib.ListN.{length-take, length, take, drop, set, length-append}
-use lib.Seq.{drop-at, sets, length-sets, sets-eq, set-comm}
+use lib.Seq.{drop-at, sets, length-sets, sets-eq}
 use Rattle.field.specs.Part.{part, put, Wrote}
 use Rattle.field.proofs.Parts.{part-is}
 
@@ -33,14 +33,6 @@ put-put [] ys d at = ap (λ (k : ℕ). sets d k ys) (add-zero at)
 put-put (x ∷ xs) ys d at =
     ap (λ (k : ℕ). sets (sets (set d at x) (suc at) xs) k ys) (add-suc at (length xs) ∙ sym (suc-add at (length xs)))
     ∙ put-put xs ys (set d at x) (suc at)
-
--- a store past a write may be done before it
-pub set-put : (xs d : List ℕ) (at k b : ℕ) → at + length xs ≤ k → set (put d at xs) k b ≡ put (set d k b) at xs
-unfolding put
-set-put [] d at k b h = refl
-set-put (x ∷ xs) d at k b h =
-    set-put xs (set d at x) (suc at) k b (omega (arith, add-suc at (length xs)))
-    ∙ ap (λ (l : List ℕ). sets l (suc at) xs) (set-comm d at k x b (λ e. omega (arith, add-suc at (length xs))))
 
 -- one byte more
 pub put-snoc : (d : List ℕ) (at : ℕ) (xs : List ℕ) (b : ℕ) → set (put d at xs) (at + length xs) b ≡ put d at (xs ++ b ∷ [])

@@ -68,8 +68,8 @@ pub fn put32(b: &mut [u8], at: usize, v: u32)
     requires { ⌜ at + 4 ≤ length (now b) ⌝ }
     ensures { λ _. ⌜ now (b .exit) ≡ putW 4 (now (b .entry)) at v ⌝ }
 {
-    b[at] = (v % 256) as u8;
-    b[at + 1] = (v / 256 % 256) as u8;
-    b[at + 2] = (v / 65536 % 256) as u8;
-    b[at + 3] = (v / 16777216 % 256) as u8;
+    b[at] = (v & 255) as u8;
+    b[at + 1] = (v >> 8 & 255) as u8;
+    b[at + 2] = (v >> 16 & 255) as u8;
+    b[at + 3] = (v >> 24) as u8;
 }
