@@ -36,7 +36,8 @@ static uint8_t file[65537];
 static size_t file_bytes;
 static uint8_t text[255];
 static size_t text_bytes;
-static uint32_t outcome;
+static struct { uint32_t number, outcome, error_class, code, date, time; } record;
+static rb_session_number session_number;
 static uint8_t table[RB_TABLE_BYTES], saved[48];
 static size_t held; /* the row of the session that a call changes */
 static uint32_t program;
@@ -124,6 +125,17 @@ static void refused_early(void) {
 static void refused_late(void) {
     comments();
     file[file_bytes - 3] = '!';
+}
+
+/* ---- records */
+
+static void usual_record(uint32_t outcome) {
+    record.number = 17, record.outcome = outcome, record.error_class = 7, record.code = 120045, record.date = 20240430, record.time = 60000;
+}
+
+/* The permitted record whose digits take the most subtractions. */
+static void most_digits(void) {
+    record.number = 59, record.outcome = 1, record.error_class = 99, record.code = 99999999, record.date = 99990929, record.time = 195959;
 }
 
 /* ---- reports */
@@ -231,12 +243,16 @@ static void sessions(uint32_t n, uint32_t count, uint32_t answered, bool last_st
 
 /* ---- the calls of each side */
 
-enum call { READ, WRITE, READ_REPORT, WRITE_REPORT, PLACE, TAKE_UP, ANSWER, COLLECT };
+enum call { READ, WRITE, WRITE_NAME, READ_REPORT, WRITE_REPORT, PLACE, TAKE_UP, ANSWER, COLLECT };
 
 static void ours(enum call call) {
     switch (call) {
     case READ: left.returned = rb_read_job(file, file_bytes, left.offsets, 64, &left.count); break;
-    case WRITE: left.returned = rb_write_record((rb_command_number){17}, outcome, 7, 120045, text, text_bytes, 20240430, 60000, left.out, 400, &left.count); break;
+    case WRITE:
+        left.returned = rb_write_record((rb_command_number){record.number}, record.outcome, record.error_class, record.code, text, text_bytes,
+                                        record.date, record.time, left.out, 400, &left.count);
+        break;
+    case WRITE_NAME: left.returned = rb_write_file_name(session_number, RB_FILE_REQUEST, 32, left.out, 400, &left.count); break;
     case READ_REPORT: left.returned = rb_read_report(report, report_bytes, delimiter, left_cells[0], REPORT_CELLS, &left.count, &left.lines); break;
     case WRITE_REPORT: left.returned = rb_write_report(report, report_bytes, cells, cell_count, columns, delimiter, left_report[0], REPORT_BYTES, &left.count); break;
     case PLACE: left.returned = rb_table_place(table, sizeof table, 5, 12, &left.number, &left.ticket); restore(); break;
@@ -249,7 +265,11 @@ static void ours(enum call call) {
 static void theirs(enum call call) {
     switch (call) {
     case READ: left.returned = plain_read_job(file, file_bytes, left.offsets, 64, &left.count); break;
-    case WRITE: left.returned = plain_write_record(17, outcome, 7, 120045, text, text_bytes, 20240430, 60000, left.out, 400, &left.count); break;
+    case WRITE:
+        left.returned = plain_write_record(record.number, record.outcome, record.error_class, record.code, text, text_bytes, record.date,
+                                           record.time, left.out, 400, &left.count);
+        break;
+    case WRITE_NAME: left.returned = plain_write_file_name(session_number.n, RB_FILE_REQUEST, 32, left.out, 400, &left.count); break;
     case READ_REPORT: left.returned = plain_read_report(report, report_bytes, delimiter, left_cells[1], REPORT_CELLS, &left.count, &left.lines); break;
     case WRITE_REPORT: left.returned = plain_write_report(report, report_bytes, cells, cell_count, columns, delimiter, left_report[1], REPORT_BYTES, &left.count); break;
     case PLACE: left.returned = plain_place(table, sizeof table, 5, 12, &left.number.n, &left.ticket.n); restore(); break;
@@ -293,6 +313,9 @@ static void all_cases(void) {
     }
     new_case("write/processed", WRITE, 0, 0);
     new_case("write/error", WRITE, 1, 0);
+    new_case("write/most-digits", WRITE, 2, 0);
+    new_case("write-name/0", WRITE_NAME, 0, 0);
+    new_case("write-name/29", WRITE_NAME, 29, 0);
     for (int n = 1; n <= 256; n *= 4) {
         sprintf(name, "write-growth/%d", n < 255 ? n : 255);
         new_case(name, WRITE, 1, n < 255 ? n : 255);
@@ -333,10 +356,12 @@ static void set_up(const struct measured *c) {
         if (c->kind == 7) typical(c->size);
         break;
     case WRITE:
-        outcome = (uint32_t)c->kind;
+        if (c->kind == 2) most_digits();
+        else usual_record((uint32_t)c->kind);
         text_bytes = (size_t)c->size;
         memset(text, 't', sizeof text);
         break;
+    case WRITE_NAME: session_number.n = (uint32_t)c->kind; break;
     case READ_REPORT:
     case WRITE_REPORT: make_report((enum report_kind)c->kind, (size_t)c->size); break;
     case PLACE: sessions(n, count, 0, false, false); break;

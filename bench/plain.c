@@ -1,4 +1,4 @@
-/* The record writer with snprintf, reports byte by byte, and the session table as structs over the same bytes, with the same checks. */
+/* The writers of records and names with snprintf, reports byte by byte, and the session table as structs over the same bytes, with the same checks. */
 #include "plain.h"
 
 int snprintf(char *, unsigned long, const char *, ...);
@@ -45,6 +45,16 @@ uint32_t plain_write_record(uint32_t number, uint32_t outcome, uint32_t error_cl
     if (n > room) return 8;
     memcpy(out, record, n);
     *written = n;
+    return 0;
+}
+
+uint32_t plain_write_file_name(uint32_t number, uint32_t kind, uint32_t max, uint8_t *out, size_t room, size_t *written) {
+    char name[13];
+    if (max < 1 || max > 32 || number >= max || kind > 1) return 11;
+    if (room < 12) return 8;
+    snprintf(name, sizeof name, kind == RB_FILE_REQUEST ? "SESS%04u.REQ" : "SESS%04u.RSP", number);
+    memcpy(out, name, 12);
+    *written = 12;
     return 0;
 }
 
