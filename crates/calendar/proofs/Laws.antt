@@ -6,7 +6,7 @@ use Prim.Native.Nat.{ℕ, _+_, _-_, _*_, _/_, _%_, _≤_, _<_}
 use native.Mathlib.Omega.{arith}
 use lib.Dec.{eqb, leb}
 use borrow.Author.Tests.{le-leb, leb-true}
-use Rattle.laws.proofs.Choose.{and-left}
+use Rattle.laws.proofs.Choose.{and-left, and-right}
 use Rattle.calendar.specs.Calendar.{februaryLength, monthLength, isDay, realDate, realTime}
 
 -- of three tests that hold, the first
@@ -31,15 +31,11 @@ long-enough year month = go (eqb month 2) (eqb month 4 || eqb month 6 || eqb mon
     go false true = omega arith
     go false false = omega arith
 
-pub early : (year month day : ℕ) → day ≤ 28 → leb 1 day ≡ isDay year month day
-early year month day h = rw (le-leb day (monthLength year month) (omega (arith, long-enough year month))) (sym (and-true (leb 1 day)))
-  where
-    and-true : (x : Bool) → (x && true) ≡ x
-    and-true true = refl
-    and-true false = refl
-
-pub late : (year month day m : ℕ) → 28 < day → m ≡ monthLength year month → leb day m ≡ isDay year month day
-late year month day m h q = rw (le-leb 1 day (omega arith), q)
+early : (year month day : ℕ) → (leb 1 day && leb day 28) ≡ true → true ≡ isDay year month day
+early year month day h =
+    let some = and-left (leb 1 day) (leb day 28) h in
+    let most : day ≤ 28 = leb-true day 28 (and-right (leb 1 day) (leb day 28) h) in
+    rw (some, le-leb day (monthLength year month) (omega (arith, long-enough year month)))
 
 -- ---- a date and a time by their fields
 
@@ -62,15 +58,26 @@ dated n some years month day le (y, m, d) =
     let hundreds : n / 100 ≡ some * 100 + rest / 100 = omega arith in
     (omega arith, omega arith, omega arith)
 
+-- the fields of what is left of a date when some of its years are taken off
+pub left-fields : (n some : ℕ) → some * 10000 ≤ n
+    → let rest = n - some * 10000 in Fields n (some + rest / 10000) (rest / 100 % 100) (rest % 100)
+left-fields n some le = dated n some _ _ _ le (refl, refl, refl)
+
 module _ (n year month day : ℕ) (small : n ≤ 99999999) (date : Fields n year month day) where
   pub date-is : (r : Bool) → (leb 1 month && leb month 12) ≡ true → r ≡ isDay year month day → r ≡ realDate n
   unfolding realDate
   date-is r t e = let (y, m, d) = date in rw (← y, ← m, ← d, le-leb year 9999 (omega arith), t) e
 
+  pub early-date : (leb 1 month && leb month 12) ≡ true → (leb 1 day && leb day 28) ≡ true → true ≡ realDate n
+  early-date t h = date-is true t (early year month day h)
+
   pub no-month : (leb 1 month && leb month 12) ≡ false → false ≡ realDate n
   unfolding realDate
   no-month t = let (y, m, d) = date in rw (← y, ← m, ← d, le-leb year 9999 (omega arith), t)
 
-pub time-is : (n hour minute second : ℕ) → n < 240000 → Fields n hour minute second → (leb minute 59 && leb second 59) ≡ realTime n
+pub time-is : (n : ℕ) → n < 240000
+    → let minute = n / 100 % 100 in
+    let second = n % 100 in
+    ((leb 0 minute && leb minute 59) && (leb 0 second && leb second 59)) ≡ realTime n
 unfolding realTime
-time-is n hour minute second small (h, m, x) = rw (m, x, le-leb (n / 10000) 23 (omega arith))
+time-is n small = rw (le-leb 0 (n / 100 % 100) (omega arith), le-leb 0 (n % 100) (omega arith), le-leb (n / 10000) 23 (omega arith))

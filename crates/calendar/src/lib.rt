@@ -1,6 +1,8 @@
 // Whether a date yyyymmdd and a time hhmmss, given as whole numbers, are real ones.
 ghost use mathlib.Core.Path.{_≡_};
+ghost use mathlib.Core.Bool.{_&&_};
 ghost use Prim.Native.Nat.{_+_, _*_, _/_, _%_, _≤_, _<_};
+ghost use lib.Dec.{leb};
 ghost use Rattle.calendar.specs.Calendar.{februaryLength, monthLength, isDay, realDate, realTime};
 
 // February has a function of its own: it is what a calendar with leap years changes.
@@ -23,14 +25,11 @@ fn month_length(year: u32, month: u32) -> u32
     }
 }
 
-// Day from 01 to the month's length. Only a day after the 28th asks how long the month is: a table with thousands of answers tests as many dates.
+// Day from 01 to the month's length.
 fn is_day(year: u32, month: u32, day: u32) -> bool
     ensures { λ r. ⌜ r ≡ isDay year month day ⌝ }
 {
-    if day <= 28 {
-        return 1 <= day;
-    }
-    day <= month_length(year, month)
+    (1 <= day) & (day <= month_length(year, month))
 }
 
 // A number as its last two digits, the two before them and the rest: of a time its second, minute and hour.
@@ -88,15 +87,50 @@ pub fn fields_of(n: u32) -> Fields
     }
 }
 
+// The hundredth part of 2 to the 32nd and a little more, and the ten thousandth.
+const HUNDREDTH: u32 = 42949673;
+
+const TEN_THOUSANDTH: u32 = 429497;
+
+// n times a part of 2 to the 32nd, without whole ones: how far n has come within its hundred, or its ten thousand. What the part is too
+// large by adds up to less than one part.
+fn part_of(n: u32, part: u32) -> u32
+    ensures { λ r. ⌜ r ≡ n * part % 4294967296 ⌝ }
+{
+    (n as u64 * part as u64 & 4294967295) as u32
+}
+
+// Whether the last two digits of n are from low to high.
+fn low_within(n: u32, low: u32, high: u32) -> bool
+    requires { ⌜ (n < 1000000) × (low < 99) × (high < 99) ⌝ }
+    ensures { λ r. ⌜ r ≡ (leb low (n % 100) && leb (n % 100) high) ⌝ }
+{
+    let place = part_of(n, HUNDREDTH);
+    (low * HUNDREDTH <= place) & (place < high * HUNDREDTH + HUNDREDTH)
+}
+
+// Whether the two digits before them are.
+fn middle_within(n: u32, low: u32, high: u32) -> bool
+    requires { ⌜ (n < 1000000) × (low < 99) × (high < 99) ⌝ }
+    ensures { λ r. ⌜ r ≡ (leb low (n / 100 % 100) && leb (n / 100 % 100) high) ⌝ }
+{
+    let place = part_of(n, TEN_THOUSANDTH);
+    (low * 100 * TEN_THOUSANDTH <= place) & (place < (high * 100 + 100) * TEN_THOUSANDTH)
+}
+
+// Only a day after the 28th is looked at with its month and year: a table with thousands of answers tests as many dates.
 pub fn is_real_date(n: u32) -> bool
     ensures { λ r. ⌜ r ≡ realDate n ⌝ }
 {
     if n <= 99999999 {
         let some_years = some_ten_thousands(n);
-        let rest = fields_of(n - some_years * 10000);
-        let month = rest.middle;
-        if (1 <= month) & (month <= 12) {
-            return is_day(some_years + rest.high, month, rest.low);
+        let rest = n - some_years * 10000;
+        if middle_within(rest, 1, 12) {
+            if low_within(rest, 1, 28) {
+                return true;
+            }
+            let date = fields_of(rest);
+            return is_day(some_years + date.high, date.middle, date.low);
         }
     }
     false
@@ -106,8 +140,7 @@ pub fn is_real_time(n: u32) -> bool
     ensures { λ r. ⌜ r ≡ realTime n ⌝ }
 {
     if n < 240000 {
-        let time = fields_of(n);
-        return (time.middle <= 59) & (time.low <= 59);
+        return middle_within(n, 0, 59) & low_within(n, 0, 59);
     }
     false
 }

@@ -1,0 +1,23 @@
+-- `calendar::low_within` meets its contract.
+use borrow.Author.Needs.{needs}
+use Rattle.calendar.proofs.Places.{low-is}
+use Rattle.calendar.proofs.low_within.Statement.{statement}
+use Rattle.calendar.proofs.low_within.Tie as tie
+
+part-of-requires : tie.Need-part-of-requires
+part-of-requires c κs = search needs
+
+mul-result : tie.Need-mul-result
+mul-result c = search needs
+
+mul-result-2 : tie.Need-mul-result-2
+mul-result-2 c = search needs
+
+add-result : tie.Need-add-result
+add-result c = search needs
+
+returns : tie.Need-returns
+returns c = low-is _ _ _ _ (c .before .pre .0) (c .part-of .ensures)
+
+pub low-within-spec : {M : Type 1} → statement M
+low-within-spec = tie.close (tie.spec part-of-requires mul-result mul-result-2 add-result returns)
