@@ -1,6 +1,6 @@
 -- A real date has at most eight digits, and a real time at most six: what a writer of decimal fields asks. Every month has 28 days. The
 -- fields as code finds them decide whether a date or a time is real.
-use mathlib.Core.Path.{_≡_, refl, sym}
+use mathlib.Core.Path.{_≡_, refl}
 use mathlib.Core.Bool.{Bool, true, false, cond, _&&_, _||_}
 use Prim.Native.Nat.{ℕ, _+_, _-_, _*_, _/_, _%_, _≤_, _<_}
 use native.Mathlib.Omega.{arith}

@@ -1,5 +1,5 @@
--- Where a number has come within its hundred and within its ten thousand, as a part of 2 to the 32nd: a unit counts so much that the rest
--- of the division below stays smaller than one unit. So a test of this part is a test of the remainder.
+-- How far a number has come within its hundred, and within its ten thousand, as a part of 2 to the 32nd. A unit counts a little more than
+-- its share, and what that adds up to stays below one unit: so a test of the part is a test of the remainder.
 use Prim.Native.Nat.{ℕ, _+_, _*_, _/_, _%_, _≤_, _<_}
 use mathlib.Core.Path.{_≡_, refl, sym, ap₂, _∙_}
 use mathlib.Core.Bool.{Bool, true, false, _&&_}

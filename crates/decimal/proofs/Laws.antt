@@ -1,7 +1,7 @@
 -- Laws of decimal fields, each for every width.
 use mathlib.Core.Path.{_≡_, refl, sym, ap, ap₂, _∙_, subst}
 use mathlib.Core.Bool.{true}
-use mathlib.Core.List.{List, [], _∷_, _++_}
+use mathlib.Core.List.{List, [], _∷_}
 use Prim.Native.Nat.{ℕ, zero, suc, _+_, _-_, _*_, _/_, _%_, _^_, _≤_, _<_}
 use native.Mathlib.Nat.{pow-suc, pow-succ', pow-le-pow-right, mul-assoc, mod-eq-of-lt, mod-one, mul-add-div-right, mul-add-mod-self-right, div-add-mod', div-lt-iff-lt-mul}
 use native.Mathlib.Numerals.{add-one}

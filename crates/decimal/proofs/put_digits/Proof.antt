@@ -31,15 +31,15 @@ below-ten (suc k) rest power some h e =
     let f : suc k - 1 ≡ k = omega arith in
     omega (arith, h, rw f at e, pow-suc 10 k)
 
--- and is the sixteenth at most
+-- so that is one digit
+one-digit : (rest power q : ℕ) → rest < 10 * power → q ≡ rest / power → q < 10
+one-digit rest power q h e = rw e (div-lt-iff-lt-mul {k = power} (omega arith) .1 h)
+
+-- the power below is the sixteenth at most
 sixteenth : (left power : ℕ) → left ≤ 16 → power ≡ 10 ^ (left - 1) → power ≤ 10 ^ 15
 sixteenth left power h e =
     let le : left - 1 ≤ 15 = omega arith in
     omega (arith, ten-le (left - 1) 15 le)
-
--- so it is one digit
-one-digit : (rest power q : ℕ) → rest < 10 * power → q ≡ rest / power → q < 10
-one-digit rest power q h e = rw e (div-lt-iff-lt-mul {k = power} (omega arith) .1 h)
 
 -- one turn
 turn : (out : List ℕ) (next left rest power q v : ℕ) → 0 < left → rest < 10 ^ left → power ≡ 10 ^ (left - 1) → q ≡ rest / power → v ≡ rest % power

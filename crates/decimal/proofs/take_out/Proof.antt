@@ -13,20 +13,26 @@ Inv-loop n power two times₀ rest₀ times rest = times * power + rest ≡ n
 abbrev μ-loop : tie.MeasureT-loop
 μ-loop n power two times₀ rest₀ times rest = rest
 
-module _ (n power times rest : ℕ) (taken : times * power + rest ≡ n) where
-  -- one more
-  one : power ≤ rest → (times + 1) * power + (rest - power) ≡ n
-  one h = omega (arith, add-mul times 1 power)
-
-  -- two more
-  two-more : power + power ≤ rest → (times + 2) * power + (rest - (power + power)) ≡ n
-  two-more h = omega (arith, add-mul times 2 power)
-
 -- a power goes nine times at most into what is less than ten of it
 few : (n power times rest : ℕ) → times * power + rest ≡ n → n < 10 * power → times < 10
 few n power times rest e small =
     let less : times * power < 10 * power = omega arith in
     lt-of-mul-lt-mul-right power less
+
+module _ (n power times rest : ℕ) (taken : times * power + rest ≡ n) where
+  -- two more
+  two-more : power + power ≤ rest → (times + 2) * power + (rest - (power + power)) ≡ n
+  two-more h = omega (arith, add-mul times 2 power)
+
+  two-fit : power + power ≤ rest → n < 10 * power → times + 2 < 10
+  two-fit h small = few n power (times + 2) (rest - (power + power)) (two-more h) small
+
+  -- one more
+  one-more : power ≤ rest → (times + 1) * power + (rest - power) ≡ n
+  one-more h = omega (arith, add-mul times 1 power)
+
+  one-fits : power ≤ rest → n < 10 * power → times + 1 < 10
+  one-fits h small = few n power (times + 1) (rest - power) (one-more h) small
 
 add-two : tie.Need-add-two Inv-loop μ-loop
 add-two c = omega arith
@@ -38,7 +44,7 @@ add-times : tie.Need-add-times Inv-loop μ-loop
 add-times c =
     let l = c .before .before .loop in
     let a = c .before .before .before .args in
-    omega (arith, few (a .n) (a .power) (l .times + 2) _ (two-more (a .n) (a .power) (l .times) (l .rest) (l .inv) (c .if1 .taken)) (c .before .before .before .pre .0))
+    omega (arith, two-fit (a .n) (a .power) (l .times) (l .rest) (l .inv) (c .if1 .taken) (c .before .before .before .pre .0))
 
 loop-less : tie.Need-loop-less Inv-loop μ-loop
 loop-less c = omega arith
@@ -53,7 +59,7 @@ add-times-2 : tie.Need-add-times-2 Inv-loop μ-loop
 add-times-2 c =
     let l = c .before .before .loop in
     let a = c .before .before .before .args in
-    omega (arith, few (a .n) (a .power) (l .times + 1) _ (one (a .n) (a .power) (l .times) (l .rest) (l .inv) (omega arith)) (c .before .before .before .pre .0))
+    omega (arith, one-fits (a .n) (a .power) (l .times) (l .rest) (l .inv) (omega arith) (c .before .before .before .pre .0))
 
 loop-less-2 : tie.Need-loop-less-2 Inv-loop μ-loop
 loop-less-2 c = omega arith
@@ -62,7 +68,7 @@ loop-again-2 : tie.Need-loop-again-2 Inv-loop μ-loop
 loop-again-2 c =
     let l = c .before .before .loop in
     let a = c .before .before .before .args in
-    one (a .n) (a .power) (l .times) (l .rest) (l .inv) (omega arith)
+    one-more (a .n) (a .power) (l .times) (l .rest) (l .inv) (omega arith)
 
 returns : tie.Need-returns Inv-loop μ-loop
 returns c =
