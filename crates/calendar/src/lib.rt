@@ -1,4 +1,5 @@
-// Whether a date yyyymmdd and a time hhmmss, given as whole numbers, are real ones.
+// Whether a date yyyymmdd and a time hhmmss, given as whole numbers, are real ones, and the fields of a time. Nothing is divided: the small
+// gateway's processor cannot.
 ghost use mathlib.Core.Path.{_≡_};
 ghost use mathlib.Core.Bool.{_&&_};
 ghost use Prim.Native.Nat.{_+_, _*_, _/_, _%_, _≤_, _<_};
@@ -72,8 +73,7 @@ fn split_by(n: u32, power: u32, some: u32) -> Split
     }
 }
 
-// The small gateway's processor does not divide: ten thousands are counted and subtracted, and then hundreds, of which 163 are a little
-// less than 2 to the 14th.
+// Ten thousands are counted and subtracted, and then hundreds, of which 163 are a little less than 2 to the 14th.
 pub fn fields_of(n: u32) -> Fields
     requires { ⌜ n < 1000000 ⌝ }
     ensures { λ r. ⌜ (r .high ≡ n / 10000) × (r .middle ≡ n / 100 % 100) × (r .low ≡ n % 100) ⌝ }
