@@ -7,6 +7,12 @@ mkdir -p "$c_made"
 
 c_native() { [ "$(uname -m)" = x86_64 ]; }
 
+# need COMMAND PACKAGE: Debian's package is installed where the command is missing.
+need() {
+    command -v "$1" >/dev/null && return
+    { apt-get install -y "$2" || { apt-get update && apt-get install -y "$2"; }; } >"$c_made/apt.log" 2>&1 || { echo "needs $1 (Debian: $2)"; exit 1; }
+}
+
 if ! c_native; then
     c_home=$(dirname "$(dirname "$(rt doc)")")
     c_kit=$c_home/on/$(uname -m)/toolchain

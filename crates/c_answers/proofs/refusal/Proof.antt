@@ -1,10 +1,17 @@
 -- `c_answers::refusal` meets its contract: a mask of ones takes the remainder by the power of two above it.
-use Prim.Native.Nat.{ℕ, _+_, _*_, _^_, _<_}
+use Prim.Native.Nat.{ℕ, _+_, _*_, _%_, _^_, _<_}
+use mathlib.Core.Path.{_≡_}
 use native.Mathlib.Omega.{arith}
 use lib.Bits.{bitAnd, and-mask, and-le-r}
 use borrow.Author.Needs.{needs}
 use Rattle.c_answers.proofs.refusal.Statement.{statement}
 use Rattle.c_answers.proofs.refusal.Tie as tie
+
+low-8 : (n : ℕ) → bitAnd n 255 ≡ n % 256
+low-8 n = and-mask n 8
+
+low-56 : (n : ℕ) → bitAnd n 72057594037927935 ≡ n % 2 ^ 56
+low-56 n = and-mask n 56
 
 -- what is masked is no more than the mask
 number-fits : (n : ℕ) → bitAnd n 255 < 2 ^ 64
@@ -26,7 +33,7 @@ add-result : tie.Need-add-result
 add-result c = search (needs, both-fit)
 
 returns : tie.Need-returns
-returns c = rw (and-mask (c .before .args .f .number) 8, and-mask (c .before .args .f .place) 56)
+returns c = simp (low-8, low-56)
 
 pub refusal-spec : {M : Type 1} → statement M
 refusal-spec = tie.close (tie.spec cast-result mul-result add-result returns)

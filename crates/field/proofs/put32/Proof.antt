@@ -58,7 +58,7 @@ unfolding putW
 returns c =
     let v = c .args .v in
     let high : v / 256 ^ 3 % 256 ≡ v / 2 ^ 24 = omega arith in
-    rw (add-zero, div-one, low-byte v, low-byte (v / 2 ^ 8), low-byte (v / 2 ^ 16), high)
+    simp (add-zero, div-one, low-byte, high)
 
 pub put32-spec : {M : Type 1} → statement M
 put32-spec =
