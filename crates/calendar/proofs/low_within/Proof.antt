@@ -1,4 +1,5 @@
 -- `calendar::low_within` meets its contract.
+use native.Mathlib.Omega.{arith}
 use borrow.Author.Needs.{needs}
 use Rattle.calendar.proofs.Places.{low-is}
 use Rattle.calendar.proofs.low_within.Statement.{statement}
@@ -17,7 +18,7 @@ add-result : tie.Need-add-result
 add-result c = search needs
 
 returns : tie.Need-returns
-returns c = low-is _ _ _ _ (c .before .pre .0) (c .part-of .ensures)
+returns c = low-is _ _ _ _ _ (c .before .pre .0) (c .part-of .ensures) (omega arith) (omega arith)
 
 pub low-within-spec : {M : Type 1} → statement M
 low-within-spec = tie.close (tie.spec part-of-requires mul-result mul-result-2 add-result returns)
