@@ -210,6 +210,7 @@ size_t rb_text_length(const uint8_t *file, size_t file_bytes, size_t quote);
 
 /* ---- dates (yyyymmdd) and times (hhmmss), as whole numbers */
 
+/* February has 29 days when the year divides by 4, except years that divide by 100 and not by 400; otherwise 28. */
 bool rb_is_real_date(uint32_t date);
 bool rb_is_real_time(uint32_t time);
 

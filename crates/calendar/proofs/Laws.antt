@@ -7,7 +7,7 @@ use native.Mathlib.Omega.{arith}
 use lib.Dec.{eqb, leb}
 use borrow.Author.Tests.{le-leb, leb-true}
 use Rattle.laws.proofs.Choose.{and-left, and-right}
-use Rattle.calendar.specs.Calendar.{februaryLength, monthLength, isDay, realDate, realTime}
+use Rattle.calendar.specs.Calendar.{isLeap, februaryLength, monthLength, isDay, realDate, realTime}
 
 -- of three tests that hold, the first
 first : (a b : ℕ) (t u : Bool) → (leb a b && t && u) ≡ true → a ≤ b
@@ -24,12 +24,13 @@ time-lt n h = let hour : n / 10000 ≤ 23 = first (n / 10000) 23 _ _ h in omega 
 -- every month has 28 days
 long-enough : (year month : ℕ) → 28 ≤ monthLength year month
 unfolding monthLength februaryLength
-long-enough year month = go (eqb month 2) (eqb month 4 || eqb month 6 || eqb month 9 || eqb month 11)
+long-enough year month = go (eqb month 2) (isLeap year) (eqb month 4 || eqb month 6 || eqb month 9 || eqb month 11)
   where
-    go : (a b : Bool) → 28 ≤ cond a 29 (cond b 30 31)
-    go true b = omega arith
-    go false true = omega arith
-    go false false = omega arith
+    go : (a leap b : Bool) → 28 ≤ cond a (cond leap 29 28) (cond b 30 31)
+    go true true b = omega arith
+    go true false b = omega arith
+    go false leap true = omega arith
+    go false leap false = omega arith
 
 early : (year month day : ℕ) → (leb 1 day && leb day 28) ≡ true → true ≡ isDay year month day
 early year month day h =

@@ -1,13 +1,20 @@
--- Which dates and times are real ones (document 01, "Bytes and tokens"): dates as whole numbers yyyymmdd, times as hhmmss.
+-- Which dates and times are real ones (document 01, "Bytes and tokens", and document 02, P4): dates as whole numbers yyyymmdd, times as hhmmss.
 use Prim.Native.Nat.{ℕ, _/_, _%_}
-use mathlib.Core.Bool.{Bool, cond, _&&_, _||_}
+use mathlib.Core.Bool.{Bool, cond, _&&_, _||_, not}
 use lib.Dec.{leb, eqb}
 
--- "29 for February": the one definition that a calendar with leap years changes
-unfoldable pub februaryLength : ℕ → ℕ
-februaryLength year = 29
+abbrev pub dividesBy : ℕ → ℕ → Bool
+dividesBy n year = eqb (year % n) 0
 
--- "the month's length: 30 for April, June, September and November, 29 for February, else 31"
+-- "the year divides by 4, except years that divide by 100 and not by 400", "Year 0000 counts as a leap year."
+abbrev pub isLeap : ℕ → Bool
+isLeap year = dividesBy 4 year && not (dividesBy 100 year && not (dividesBy 400 year))
+
+-- "February has 29 days when" so; "otherwise 28"
+unfoldable pub februaryLength : ℕ → ℕ
+februaryLength year = cond (isLeap year) 29 28
+
+-- "the month's length: 30 for April, June, September and November, .. for February, else 31"
 unfoldable pub monthLength : ℕ → ℕ → ℕ
 monthLength year month =
     cond (eqb month 2) (februaryLength year) (cond (eqb month 4 || eqb month 6 || eqb month 9 || eqb month 11) 30 31)

@@ -6,14 +6,19 @@ ghost use Prim.Native.Nat.{_+_, _*_, _/_, _%_, _≤_, _<_};
 ghost use lib.Dec.{leb};
 ghost use Rattle.calendar.specs.Calendar.{februaryLength, monthLength, isDay, realDate, realTime};
 
-// February has a function of its own: it is what a calendar with leap years changes.
-fn february_length(_year: u32) -> u32
-    ensures { λ r. ⌜ r ≡ februaryLength «_year» ⌝ }
+// A year divides by 100 where its last two digits are 00, and then by 400 where it divides by 16.
+fn february_length(year: u32) -> u32
+    requires { ⌜ year < 10000 ⌝ }
+    ensures { λ r. ⌜ r ≡ februaryLength year ⌝ }
 {
-    29
+    let by_4 = year & 3 == 0;
+    let by_100 = low_within(year, 0, 0);
+    let by_400 = by_100 & (year & 15 == 0);
+    if by_4 & !(by_100 & !by_400) { 29 } else { 28 }
 }
 
 fn month_length(year: u32, month: u32) -> u32
+    requires { ⌜ year < 10000 ⌝ }
     ensures { λ r. ⌜ r ≡ monthLength year month ⌝ }
 {
     if month == 2 {
@@ -28,6 +33,7 @@ fn month_length(year: u32, month: u32) -> u32
 
 // Day from 01 to the month's length.
 fn is_day(year: u32, month: u32, day: u32) -> bool
+    requires { ⌜ year < 10000 ⌝ }
     ensures { λ r. ⌜ r ≡ isDay year month day ⌝ }
 {
     (1 <= day) & (day <= month_length(year, month))

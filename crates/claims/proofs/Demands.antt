@@ -1,4 +1,4 @@
--- The first two demands hold, from the crates below; the third is in `Demand3`.
+-- The first two demands hold, and so do the requests of document 02 that the page has, from the crates below; the third demand is in `Demand3`.
 use Prim.Native.Nat.{ℕ}
 use mathlib.Core.Path.{_≡_, refl, sym, ap, _∙_}
 use mathlib.Core.Bool.{Bool, true, false, cond}
@@ -48,13 +48,14 @@ use Rattle.session_histories.proofs.Fresh.{fresh-bytes}
 use Rattle.sessions.proofs.Laws.{in-range}
 use Rattle.sessions.specs.Table.{within, fresh}
 use Rattle.table_sound.specs.Bytes.{abs}
-use Rattle.claims.specs.Demands.{Demand1, Demand2, Reports}
+use Rattle.claims.specs.Demands.{Demand1, Demand2, Reports, StoredDates}
 use Rattle.claims.proofs.Demand1.{one-result}
 use Rattle.claims.proofs.Demand1Names.{read-name-exactly, write-name-exactly, refused-write-changes-nothing, read-name-determined, write-name-determined}
 use Rattle.claims.proofs.Demand1Records.{read-record-exactly, write-record-exactly, refused-record-changes-nothing, read-record-determined, write-record-determined}
 use Rattle.claims.proofs.Demand1Statements.{read-statement-exactly}
 use Rattle.claims.proofs.Fits.{read-name-fits, write-name-fits, read-record-fits, write-record-fits, read-job-fits, read-statement-fits, read-report-fits, write-report-fits, make-fits, place-fits, take-up-fits, answer-fits, collect-fits}
 use Rattle.claims.proofs.Demand1Table.{make-exactly, place-exactly, take-up-exactly, answer-exactly, collect-exactly}
+use Rattle.claims.proofs.StoredDates.{unreal-date-is-unsound, unsound-is-refused}
 use Rattle.claims.proofs.Demand1TableResults.{make-refused-keeps, place-refused-keeps, take-up-refused-keeps, answer-refused-keeps, collect-refused-keeps, make-determined, place-determined, take-up-determined, answer-determined, collect-determined}
 
 -- ---- demand 1
@@ -228,3 +229,8 @@ report-files =
       rows-to-text-to-rows = rows-to-text-to-rows;
       text-to-rows-to-text = text-to-rows-to-text;
     }
+
+-- ---- stored dates
+
+pub stored-dates : StoredDates
+stored-dates = record { unreal-date-is-unsound = unreal-date-is-unsound; unsound-is-refused = unsound-is-refused }

@@ -246,6 +246,18 @@ pub record Reports : Type 0 where
   pub text-to-rows-to-text : (d : ℕ) (text : List ℕ) (lent : ℕ) (t : Told) → readReport d text lent ≡ done t → (room : ℕ) → length text ≤ room
       → reportWriting.written text (t .cells) (t .columns) d room ≡ done text
 
+-- ---- The 29th of February (document 02, P4). "Job files, records, answers .. all follow. .. Demand 2 reads with this calendar.": what is said above of a date
+-- is said of `realDate`, in which February has the days that P4 gives it.
+
+pub record StoredDates : Type 0 where
+  -- "A session table that stores a now unreal date is unsound.": with any answer of any session
+  pub unreal-date-is-unsound : (b : List ℕ) (s : ℕ) (a : Answer) (before after : List Answer) → abs b .slot s .answers ≡ before ++ (a ∷ after)
+      → realDate (a .date) ≡ false → soundBytes b ≡ false
+  -- and then every call gives 13, whatever it asks
+  pub unsound-is-refused : (b : List ℕ) → soundBytes b ≡ false
+      → ((p n : ℕ) → placing b p n ≡ refused unsound 0) × (takingUp b ≡ refused unsound 0)
+      × ((t c : ℕ) (a : Answer) → answering b t c a ≡ refused unsound 0) × ((p t room : ℕ) → collecting b p t room ≡ refused unsound 0)
+
 -- ---- Demand 3: "From a fresh table, after any sequence of calls by up to eight programs and one machine:" of any way to answer a table's calls, with
 -- `fresh` for what is made and `step` for what a call answers and leaves. Lists of calls and events have the newest first.
 

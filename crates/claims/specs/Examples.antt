@@ -1,5 +1,6 @@
--- The examples that document 01 marks with a star, both ends, sign and zero of its numbers, and some report files of document 02's P1, in one table: the
--- words, and the test that they are, on the definitions that the contracts cite. `proofs/Examples` proves that every row holds, by one computation.
+-- The examples that document 01 marks with a star, both ends, sign and zero of its numbers, and, of document 02, some report files of P1 and dates of P4, in
+-- one table: the words, and the test that they are, on the definitions that the contracts cite. `proofs/Examples` proves that every row holds, by one
+-- computation.
 use Prim.Native.Nat.{ℕ}
 use Prim.Native.String.{String}
 use mathlib.Core.Bool.{Bool, true, false, not, _&&_}
@@ -104,6 +105,15 @@ examples =
     ∷ row "ERROR: 51" (eqb (recordLength (Error 6 16)) 51)
     ∷ row "date 20240431: refused" (not (realDate 20240431))
     ∷ row "20240430: taken" (realDate 20240430)
+    ∷ row "19970229: refused" (not (realDate 19970229))
+    ∷ row "19000229: refused" (not (realDate 19000229))
+    ∷ row "20000229: taken" (realDate 20000229)
+    ∷ row "00000229: taken" (realDate 229)
+    ∷ row "20240229: taken" (realDate 20240229)
+    ∷ row "20240230: refused" (not (realDate 20240230))
+    ∷ row "1998 divides by 2 alone: 19980229 refused" (not (realDate 19980229))
+    ∷ row "2004 divides by 4 and not by 8: 20040229 taken" (realDate 20040229)
+    ∷ row "1800 divides by 200 and not by 400: 18000229 refused" (not (realDate 18000229))
     ∷ row "time 24:00:00: refused" (not (realTime 240000))
     ∷ row "23:59:59: taken" (realTime 235959)
     ∷ row "SESS0032.REQ with MaxSessions 32: 11" (isRefused outOfRange 0 (nameRead 32 (ascii "SESS0032.REQ")))
