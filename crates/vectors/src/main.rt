@@ -1,19 +1,32 @@
 // Runs the examples: each argument names a file of data/, which is read as a record where its name ends with .rec, as a report where it ends with
-// .rep, and else as a job file, and a line says what it read as. The files are the examples of documents 01 and 02 that are not proved, the traps,
-// the places where two readers could differ, and the job files, records and reports of EUROMAP 63's worked examples with their scan damage mended.
+// .rep, as the date of an answer that is given (.ans) or that a table stores (.tab), and else as a job file, and a line says what it read as. The
+// files are the examples of documents 01 and 02 that are not proved, the traps, the places where two readers could differ, and the job files,
+// records and reports of EUROMAP 63's worked examples with their scan damage mended.
+use counts::CommandNumber;
+use counts::SessionNumber;
+use counts::Ticket;
 use io::print_decimal;
 use io::write_all;
 use job::JobAnswer;
+use labelled::FieldRead;
 use libc::STDOUT_FILENO;
 use record::Outcome;
 use record_read::RecordRead;
 use report::ReportRead;
+use session_table::Answered;
+use session_table::Collected;
+use session_table::SessionPlaced;
+use session_table::TakenUp;
+use sessions::Answer;
+use table_layout::Table;
 
 // What an example is: by the end of its name, and a report's delimiter by its beginning.
 enum Kind {
     Job,
     Record,
     Report(u8),
+    Answer,
+    Stored,
 }
 
 fn print_number(n: u64) {
@@ -117,6 +130,118 @@ fn run_report(file: &[u8], delimiter: u8) {
     }
 }
 
+// ---- session tables
+
+// The date that a file has after the word DATE, and 0, which is none, where it has not eight digits there.
+fn date_in(file: &[u8]) -> u32 {
+    let FieldRead::Field(date) = labelled::field_after(file, 0, b"DATE ", 8) else {
+        return 0;
+    };
+    date
+}
+
+// Makes a table in which program 1 has placed one command.
+fn make_with_one(table: &mut [u8]) {
+    session_table::make(table, 32);
+    session_table::place(table, 1, 1);
+}
+
+fn place(table: &mut [u8]) {
+    write_all(STDOUT_FILENO, b" place");
+    match session_table::place(table, 2, 1) {
+        SessionPlaced::At(number, ticket) => {
+            print_number(number.0 as u64);
+            print_number(ticket.0 as u64);
+        }
+        SessionPlaced::Refused(refusal) => print_refusal(refusal.number, refusal.place),
+    }
+}
+
+fn take_up(table: &mut [u8]) {
+    write_all(STDOUT_FILENO, b" take-up");
+    match session_table::take_up(table) {
+        TakenUp::Given(number, ticket, command) => {
+            print_number(number.0 as u64);
+            print_number(ticket.0 as u64);
+            print_number(command.0 as u64);
+        }
+        TakenUp::Refused(refusal) => print_refusal(refusal.number, refusal.place),
+    }
+}
+
+fn answer(table: &mut [u8], ticket: Ticket, date: u32) {
+    write_all(STDOUT_FILENO, b" answer");
+    match session_table::answer(
+        table,
+        ticket,
+        CommandNumber(1),
+        Outcome::Processed,
+        date,
+        235959,
+    ) {
+        Answered::Accepted => {
+            write_all(STDOUT_FILENO, b" accepted");
+        }
+        Answered::Refused(refusal) => print_refusal(refusal.number, refusal.place),
+    }
+}
+
+// A reply of one record, in the first n bytes.
+fn run_reply(reply: &[u8], n: usize) {
+    if n <= reply.len() {
+        run_record(&reply[..n]);
+    }
+}
+
+fn collect(table: &mut [u8]) {
+    let mut reply = [0u8; 64];
+    write_all(STDOUT_FILENO, b" collect");
+    match session_table::collect(table, 1, Ticket(1), &mut reply) {
+        Collected::Written(n) => run_reply(&reply, n),
+        Collected::Refused(refusal) => print_refusal(refusal.number, refusal.place),
+    }
+}
+
+// The command is taken up, and answered with the date of the file.
+fn run_answer(file: &[u8]) {
+    let mut table = [0u8; Table::SIZE];
+    make_with_one(&mut table);
+    session_table::take_up(&mut table);
+    answer(&mut table, Ticket(1), date_in(file));
+    collect(&mut table);
+}
+
+// Stores an answer to the command with any date, which the call does not.
+fn store(table: &mut [u8], date: u32) {
+    if table.len() == Table::SIZE {
+        let head = slot::get_head(table, SessionNumber(0));
+        if head.answered < Table::COMMANDS {
+            let stored = Answer {
+                outcome: Outcome::Processed,
+                date,
+                time: 235959,
+            };
+            slot::answer_slot(table, SessionNumber(0), stored);
+        }
+    }
+}
+
+// The table stores the date of the file; then each call is made on it.
+fn run_stored(file: &[u8]) {
+    let mut table = [0u8; Table::SIZE];
+    make_with_one(&mut table);
+    store(&mut table, date_in(file));
+    if table_sound::is_sound(&table) {
+        write_all(STDOUT_FILENO, b" sound");
+    } else {
+        write_all(STDOUT_FILENO, b" unsound");
+    }
+    place(&mut table);
+    take_up(&mut table);
+    answer(&mut table, Ticket(2), 20240430);
+    collect(&mut table);
+}
+
 fn run_file(fd: i32, kind: Kind) {
     let mut file = io::large_buffer();
     let n = io::read_full(fd, &mut file);
@@ -124,6 +249,8 @@ fn run_file(fd: i32, kind: Kind) {
         Kind::Job => run_job(&file[..n]),
         Kind::Record => run_record(&file[..n]),
         Kind::Report(delimiter) => run_report(&file[..n], delimiter),
+        Kind::Answer => run_answer(&file[..n]),
+        Kind::Stored => run_stored(&file[..n]),
     }
     write_all(STDOUT_FILENO, b"\n");
 }
@@ -159,6 +286,12 @@ fn kind_of(name: &[u8]) -> Kind {
     }
     if ends_with(name, b".rep") {
         return Kind::Report(delimiter(name));
+    }
+    if ends_with(name, b".ans") {
+        return Kind::Answer;
+    }
+    if ends_with(name, b".tab") {
+        return Kind::Stored;
     }
     Kind::Job
 }
