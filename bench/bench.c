@@ -37,6 +37,7 @@ static size_t file_bytes;
 static uint8_t text[255];
 static size_t text_bytes;
 static struct { uint32_t number, outcome, error_class, code, date, time; } record;
+static uint32_t date;
 static rb_session_number session_number;
 static uint8_t table[RB_TABLE_BYTES], saved[48];
 static size_t held; /* the row of the session that a call changes */
@@ -243,11 +244,12 @@ static void sessions(uint32_t n, uint32_t count, uint32_t answered, bool last_st
 
 /* ---- the calls of each side */
 
-enum call { READ, WRITE, WRITE_NAME, READ_REPORT, WRITE_REPORT, PLACE, TAKE_UP, ANSWER, COLLECT };
+enum call { READ, IS_DATE, WRITE, WRITE_NAME, READ_REPORT, WRITE_REPORT, PLACE, TAKE_UP, ANSWER, COLLECT };
 
 static void ours(enum call call) {
     switch (call) {
     case READ: left.returned = rb_read_job(file, file_bytes, left.offsets, 64, &left.count); break;
+    case IS_DATE: left.returned = rb_is_real_date(date); break;
     case WRITE:
         left.returned = rb_write_record((rb_command_number){record.number}, record.outcome, record.error_class, record.code, text, text_bytes,
                                         record.date, record.time, left.out, 400, &left.count);
@@ -265,6 +267,7 @@ static void ours(enum call call) {
 static void theirs(enum call call) {
     switch (call) {
     case READ: left.returned = plain_read_job(file, file_bytes, left.offsets, 64, &left.count); break;
+    case IS_DATE: left.returned = plain_is_real_date(date); break;
     case WRITE:
         left.returned = plain_write_record(record.number, record.outcome, record.error_class, record.code, text, text_bytes, record.date,
                                            record.time, left.out, 400, &left.count);
@@ -311,6 +314,10 @@ static void all_cases(void) {
         sprintf(name, "read-growth/%d", n);
         new_case(name, READ, 7, n);
     }
+    new_case("is-date/28-april", IS_DATE, 20240428, 0);
+    new_case("is-date/30-april", IS_DATE, 20240430, 0);
+    new_case("is-date/28-february", IS_DATE, 20240228, 0);
+    new_case("is-date/29-february", IS_DATE, 20240229, 0);
     new_case("write/processed", WRITE, 0, 0);
     new_case("write/error", WRITE, 1, 0);
     new_case("write/most-digits", WRITE, 2, 0);
@@ -355,6 +362,7 @@ static void set_up(const struct measured *c) {
         if (c->kind == 6) refused_late();
         if (c->kind == 7) typical(c->size);
         break;
+    case IS_DATE: date = (uint32_t)c->kind; break;
     case WRITE:
         if (c->kind == 2) most_digits();
         else usual_record((uint32_t)c->kind);

@@ -10,7 +10,8 @@ void *memset(void *, int, unsigned long);
 bool plain_is_real_date(uint32_t date) {
     static const uint8_t days[13] = {0, 31, 29, 31, 30, 31, 30, 31, 31, 30, 31, 30, 31};
     uint32_t year = date / 10000, month = date / 100 % 100, day = date % 100;
-    return year <= 9999 && month >= 1 && month <= 12 && day >= 1 && day <= days[month];
+    if (year > 9999 || month < 1 || month > 12 || day < 1 || day > days[month]) return false;
+    return month != 2 || day < 29 || (year % 4 == 0 && (year % 100 != 0 || year % 400 == 0));
 }
 
 bool plain_is_real_time(uint32_t time) { return time / 10000 <= 23 && time / 100 % 100 <= 59 && time % 100 <= 59; }

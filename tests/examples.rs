@@ -1,7 +1,7 @@
-//! Document 01's checked examples, its traps, and the readings that docs/DECISIONS.md names, P1's among them: with the numbers written
-//! out, so that the reference is held against the documents too. Then the library is asked the same.
+//! Document 01's checked examples, its traps, and the readings that docs/DECISIONS.md names, P1's and P4's among them: with the numbers
+//! written out, so that the reference is held against the documents too. Then the library is asked the same.
 
-use crate::calls::{expect_job, expect_name_read, expect_record_written, expect_statement};
+use crate::calls::{expect_calendar, expect_job, expect_name_read, expect_record_written, expect_statement};
 use crate::library::{returned, Library};
 use crate::reference::calendar::{is_real_date, is_real_time};
 use crate::reference::job::{read_job, read_statement, Body, Start, Value};
@@ -92,6 +92,27 @@ fn other_examples(l: &mut Library) -> usize {
         expect_name_read(l, name, 32);
     }
     14
+}
+
+/// The 29th of February, in a job file and in a record; then the end of February in every year.
+fn februaries(l: &mut Library) -> usize {
+    let dates = [(19970229, false), (19000229, false), (20000229, true), (229, true), (20240229, true)];
+    for (date, real) in dates {
+        assert_eq!(is_real_date(date), real, "{date}");
+        let (number, place) = if real { (0, 0) } else { (5, 60) };
+        job(l, format!("JOB a RESPONSE \"x\"; UPLOAD \"f\" ACTIVE START TIME>= 08:00:00 {date:08};").as_bytes(), number, place);
+        let record = Record { number: 1, outcome: Outcome::Processed, text: vec![], date, time: 235959 };
+        assert_eq!(returned(&write_record(&record, 60)), number);
+        expect_record_written(l, &record, [0, 0, 0], 60);
+    }
+    let leap = (0..10_000).filter(|year| is_real_date(year * 10_000 + 229)).count();
+    assert_eq!(leap, 25 * 97, "97 of 400 years are leap years");
+    for year in 0..10_000 {
+        for day in [28, 29, 30] {
+            expect_calendar(l, year * 10_000 + 200 + day);
+        }
+    }
+    dates.len()
 }
 
 /// Copies of a field with semicolons between, as a line.
@@ -244,5 +265,5 @@ fn reports_written(l: &mut Library) -> usize {
 }
 
 pub fn all(l: &mut Library) -> usize {
-    job_examples(l) + other_examples(l) + reports_read(l) + reports_written(l)
+    job_examples(l) + other_examples(l) + februaries(l) + reports_read(l) + reports_written(l)
 }

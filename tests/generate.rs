@@ -77,7 +77,7 @@ fn number_run(r: &mut Random) -> Vec<u8> {
 /// A date number, mostly real, else near one.
 pub fn date(r: &mut Random) -> u32 {
     let any = r.below(10000) as u32;
-    let year = r.pick(&[0, 1, 1999, 2000, 2024, 9999, any]);
+    let year = r.pick(&[0, 1, 1900, 1997, 2000, 2024, 9999, any]);
     match r.below(12) {
         0 => year * 10000 + r.below(14) as u32 * 100 + r.below(33) as u32,
         1 => year * 10000 + r.pick(&[2, 4, 6, 9, 11]) * 100 + r.pick(&[29, 30, 31]),
