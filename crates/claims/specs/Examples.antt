@@ -106,6 +106,7 @@ examples =
     ∷ row "date 20240431: refused" (not (realDate 20240431))
     ∷ row "20240430: taken" (realDate 20240430)
     ∷ row "19970229: refused" (not (realDate 19970229))
+    ∷ row "19970228: taken" (realDate 19970228)
     ∷ row "19000229: refused" (not (realDate 19000229))
     ∷ row "20000229: taken" (realDate 20000229)
     ∷ row "00000229: taken" (realDate 229)
