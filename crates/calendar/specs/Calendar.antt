@@ -3,6 +3,7 @@ use Prim.Native.Nat.{ℕ, _/_, _%_}
 use mathlib.Core.Bool.{Bool, cond, _&&_, _||_, not}
 use lib.Dec.{leb, eqb}
 
+-- "the year divides by" n
 abbrev pub dividesBy : ℕ → ℕ → Bool
 dividesBy n year = eqb (year % n) 0
 
@@ -10,7 +11,7 @@ dividesBy n year = eqb (year % n) 0
 abbrev pub isLeap : ℕ → Bool
 isLeap year = dividesBy 4 year && not (dividesBy 100 year && not (dividesBy 400 year))
 
--- "February has 29 days when" so; "otherwise 28"
+-- "February has 29 days when" it is one; "otherwise 28"
 unfoldable pub februaryLength : ℕ → ℕ
 februaryLength year = cond (isLeap year) 29 28
 

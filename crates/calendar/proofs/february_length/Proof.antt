@@ -1,4 +1,4 @@
--- `february_length` meets its contract: its tests are those of the word.
+-- `february_length` meets its contract: the test that led to each return is the word's.
 use Prim.Native.Nat.{ℕ, _-_, _*_, _/_, _%_}
 use mathlib.Core.Path.{_≡_, refl, sym}
 use mathlib.Core.Bool.{Bool, true, false, cond, _&&_, not}
@@ -32,6 +32,7 @@ by-400 year = go (eqb (year % 100) 0) (eqb (year % 16) 0) refl refl
     go true false e f = let y = eqb-false (year % 16) 0 f in sym (ne-eqb (year % 400) 0 (λ q. y (omega arith)))
     go false u e f = let z = eqb-false (year % 100) 0 e in sym (ne-eqb (year % 400) 0 (λ q. z (omega arith)))
 
+-- a mask of two ones takes the remainder by 4, and one of four ones that by 16
 low-2 : (n : ℕ) → bitAnd n 3 ≡ n % 4
 low-2 n = and-mask n 2
 
