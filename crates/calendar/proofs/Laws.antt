@@ -1,13 +1,14 @@
 -- A real date has at most eight digits, and a real time at most six: what a writer of decimal fields asks. Every month has 28 days. The
 -- fields as code finds them decide whether a date or a time is real.
 use mathlib.Core.Path.{_≡_, refl}
-use mathlib.Core.Bool.{Bool, true, false, cond, _&&_, _||_}
+use mathlib.Core.Bool.{Bool, true, false, cond, _&&_}
 use Prim.Native.Nat.{ℕ, _+_, _-_, _*_, _/_, _%_, _≤_, _<_}
 use native.Mathlib.Omega.{arith}
-use lib.Dec.{eqb, leb}
+use lib.Dec.{leb}
+use borrow.Author.Needs.{needs}
 use borrow.Author.Tests.{le-leb, leb-true}
 use Rattle.laws.proofs.Choose.{and-left, and-right}
-use Rattle.calendar.specs.Calendar.{isLeap, februaryLength, monthLength, isDay, realDate, realTime}
+use Rattle.calendar.specs.Calendar.{februaryLength, monthLength, isDay, realDate, realTime}
 
 -- of three tests that hold, the first
 first : (a b : ℕ) (t u : Bool) → (leb a b && t && u) ≡ true → a ≤ b
@@ -24,13 +25,11 @@ time-lt n h = let hour : n / 10000 ≤ 23 = first (n / 10000) 23 _ _ h in omega 
 -- every month has 28 days
 long-enough : (year month : ℕ) → 28 ≤ monthLength year month
 unfolding monthLength februaryLength
-long-enough year month = go (eqb month 2) (isLeap year) (eqb month 4 || eqb month 6 || eqb month 9 || eqb month 11)
+long-enough year month = search (needs, either-way)
   where
-    go : (a leap b : Bool) → 28 ≤ cond a (cond leap 29 28) (cond b 30 31)
-    go true true b = omega arith
-    go true false b = omega arith
-    go false leap true = omega arith
-    go false leap false = omega arith
+    either-way : (t : Bool) (a b : ℕ) → 28 ≤ a → 28 ≤ b → 28 ≤ cond t a b
+    either-way true a b p q = p
+    either-way false a b p q = q
 
 early : (year month day : ℕ) → (leb 1 day && leb day 28) ≡ true → true ≡ isDay year month day
 early year month day h =

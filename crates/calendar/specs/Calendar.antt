@@ -7,13 +7,9 @@ use lib.Dec.{leb, eqb}
 abbrev pub dividesBy : ℕ → ℕ → Bool
 dividesBy n year = eqb (year % n) 0
 
--- "the year divides by 4, except years that divide by 100 and not by 400", "Year 0000 counts as a leap year."
-abbrev pub isLeap : ℕ → Bool
-isLeap year = dividesBy 4 year && not (dividesBy 100 year && not (dividesBy 400 year))
-
--- "February has 29 days when" it is one; "otherwise 28"
+-- "February has 29 days when the year divides by 4, except years that divide by 100 and not by 400; otherwise 28. Year 0000 counts as a leap year."
 unfoldable pub februaryLength : ℕ → ℕ
-februaryLength year = cond (isLeap year) 29 28
+februaryLength year = cond (dividesBy 4 year && not (dividesBy 100 year && not (dividesBy 400 year))) 29 28
 
 -- "the month's length: 30 for April, June, September and November, .. for February, else 31"
 unfoldable pub monthLength : ℕ → ℕ → ℕ
