@@ -4,7 +4,8 @@
 
 enum class {
     C_JOB, C_RESPONSE, C_UPLOAD, C_DOWNLOAD, C_GETINFO, C_ABORT, C_REPORT, C_EVENT, C_START, C_ACTIVE, C_IMMEDIATE, C_RESERVED, C_NAME,
-    C_TIME_FROM, C_NUMBER, C_TIME, C_STRING, C_OPERATOR, C_SEMICOLON, C_END, C_NONE
+    C_TIME_FROM, C_NUMBER, C_TIME, C_STRING, C_OPERATOR, C_SEMICOLON, C_END,
+    C_STRAY, C_OPEN_STRING, C_BROKEN_STRING, C_MISSHAPEN /* no token, by why it is none */
 };
 
 /* The class of the next token; *start is its first byte, *cursor the place after it. */
@@ -39,15 +40,16 @@ static enum class next_token(const uint8_t **cursor, const uint8_t *limit, const
             "IMMEDIATE" { GIVE(C_IMMEDIATE); }
             "STOP" | "TIME" | "NEVER" { GIVE(C_RESERVED); }
             "TIME>=" { GIVE(C_TIME_FROM); }
-            word { GIVE(YYCURSOR - token <= 255 ? C_NAME : C_NONE); }
-            "-"? digit+ { GIVE(YYCURSOR - token - (*token == '-') <= 16 ? C_NUMBER : C_NONE); }
-            "-"? digit+ "." digit+ { GIVE(YYCURSOR - token - (*token == '-') <= 17 ? C_NUMBER : C_NONE); }
+            word { GIVE(YYCURSOR - token <= 255 ? C_NAME : C_MISSHAPEN); }
+            "-"? digit+ { GIVE(YYCURSOR - token - (*token == '-') <= 16 ? C_NUMBER : C_MISSHAPEN); }
+            "-"? digit+ "." digit+ { GIVE(YYCURSOR - token - (*token == '-') <= 17 ? C_NUMBER : C_MISSHAPEN); }
             digit digit ":" digit digit ":" digit digit { GIVE(C_TIME); }
-            run { GIVE(C_NONE); }
-            ["] [\x20\x21\x23-\xfe]* ["] { GIVE(YYCURSOR - token <= 257 ? C_STRING : C_NONE); }
+            run { GIVE(C_MISSHAPEN); }
+            ["] [\x20\x21\x23-\xfe]* ["] { GIVE(YYCURSOR - token <= 257 ? C_STRING : C_BROKEN_STRING); }
+            ["] [\x20\x21\x23-\xfe]* { GIVE(YYCURSOR == limit && YYCURSOR - token <= 256 ? C_OPEN_STRING : C_BROKEN_STRING); }
             "=" | "!=" | ">" | "<" | ">=" | "<=" { GIVE(C_OPERATOR); }
             ";" { GIVE(C_SEMICOLON); }
-            * { GIVE(C_NONE); }
+            * { GIVE(C_STRAY); }
         */
     }
 }
@@ -58,7 +60,7 @@ enum point {
 };
 
 /* The point after a token of that class, plus one; 0 where none may stand. */
-static const uint8_t after[P_COUNT][C_NONE + 1] = {
+static const uint8_t after[P_COUNT][C_END + 1] = {
     [P_FIRST] = {[C_JOB] = 1 + P_JOB_NAME},
     [P_JOB_NAME] = {[C_NAME] = 1 + P_JOB_RESPONSE},
     [P_JOB_RESPONSE] = {[C_RESPONSE] = 1 + P_JOB_FILE},
@@ -84,6 +86,9 @@ static uint32_t digits_of(const uint8_t *p, int n) {
     return v;
 }
 
+/* The refusals of what is no token, by why it is none. */
+static const uint8_t no_token_number[] = {3, 15, 16, 17};
+
 /* 0, or the refusal of a time or date that may stand at the point. */
 static uint32_t moment_refusal(enum point at, enum class c, const uint8_t *token, const uint8_t *end) {
     if (at == P_START_TIME && c == C_TIME)
@@ -106,14 +111,14 @@ uint32_t plain_read_job(const uint8_t *file, size_t n, uint32_t *offsets, size_t
     for (;;) {
         enum class c = next_token(&cursor, limit, &token);
         uint32_t place = 256 * (uint32_t)(token - file);
-        if (c == C_NONE) return place + 3;
+        if (c > C_END) return place + no_token_number[c - C_STRAY];
         if (at == P_BETWEEN || at == P_FIRST) {
             if (c == C_END && at == P_BETWEEN) break;
             if (c != C_END && count == 64) return place + 6;
             if (count < 64) found[count] = (uint32_t)(token - file);
         }
         uint8_t next = after[at][c];
-        if (!next) return place + 4;
+        if (!next) return place + (c == C_END ? 18 : 4);
         uint32_t no = moment_refusal(at, c, token, cursor);
         if (no) return place + no;
         at = (enum point)(next - 1);

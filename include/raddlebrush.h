@@ -22,7 +22,7 @@ extern "C" {
 
 /* ---- the version: one more with each change of a name, a type, a number or a size of this header */
 
-#define RB_VERSION 3u
+#define RB_VERSION 4u
 
 /* The version of the archive. */
 uint32_t rb_version(void);
@@ -39,8 +39,8 @@ typedef uint64_t rb_result;
 
 #define RB_REFUSAL_FILE_TOO_LONG 1u       /* job file over 65,535 bytes */
 #define RB_REFUSAL_TOO_FEW_PLACES 2u      /* legal job file with more statements than the lent offset table has places */
-#define RB_REFUSAL_NO_TOKEN 3u            /* the next bytes are no token; place: the first of them (a string: its opening quote) */
-#define RB_REFUSAL_UNEXPECTED 4u          /* a token, or the end of file, that no legal file has after the tokens before it */
+#define RB_REFUSAL_NO_TOKEN 3u            /* a byte that starts no token, a lone !, / or - too */
+#define RB_REFUSAL_UNEXPECTED 4u          /* a token that no legal file has after the tokens before it */
 #define RB_REFUSAL_NOT_REAL 5u            /* a time or date that is not a real one */
 #define RB_REFUSAL_TOO_MANY_STATEMENTS 6u /* any token after 64 statements */
 #define RB_REFUSAL_NOT_A_RECORD 7u        /* record field out of range, bytes that are not a record, or a line that no report has */
@@ -51,12 +51,16 @@ typedef uint64_t rb_result;
 #define RB_REFUSAL_NO_TICKET_LEFT 12u     /* last ticket is 4,294,967,295 */
 #define RB_REFUSAL_UNSOUND 13u            /* lent session table unsound */
 #define RB_REFUSAL_NOTHING_UNANSWERED 14u /* take up: no unanswered command */
+#define RB_REFUSAL_OPEN_STRING 15u        /* a string that meets the end of the file first; place: its opening quote, as for the next */
+#define RB_REFUSAL_BROKEN_STRING 16u      /* a string that first meets a forbidden byte (below 32, or 255) or its 256th content byte */
+#define RB_REFUSAL_MISSHAPEN 17u          /* an overlong word, or a numeric run that is neither number nor time; place: its first byte */
+#define RB_REFUSAL_END_OF_FILE 18u        /* the end of the file, that no legal file has after the tokens before it; place: the length */
 
 /* The number of a refusal; RB_DONE where there is none. */
 static inline uint32_t rb_refusal_number(rb_result result) { return (uint32_t)(result & 255u); }
 
-/* The place of a refusal: for a job file with the numbers 3 to 6 a byte of the file, or its length for the end; for a report that is read,
- * with the number 7, the start of the line; 0 for any other. */
+/* The place of a refusal: for a job file with the numbers 3 to 6 and 15 to 17 a byte of the file, with 18 its length; for a report that is
+ * read, with the number 7, the start of the line; 0 for any other. */
 static inline size_t rb_refusal_place(rb_result result) { return (size_t)(result >> 8); }
 
 /* A refusal's number in words, for a log. */
@@ -66,7 +70,7 @@ static inline const char *rb_refusal_text(uint32_t number) {
     case RB_REFUSAL_FILE_TOO_LONG: return "the job file is too long";
     case RB_REFUSAL_TOO_FEW_PLACES: return "more statements than places for their offsets";
     case RB_REFUSAL_NO_TOKEN: return "no token begins here";
-    case RB_REFUSAL_UNEXPECTED: return "this may not stand here";
+    case RB_REFUSAL_UNEXPECTED: return "this token may not stand here";
     case RB_REFUSAL_NOT_REAL: return "no real date or time";
     case RB_REFUSAL_TOO_MANY_STATEMENTS: return "too many statements";
     case RB_REFUSAL_NOT_A_RECORD: return "not a record, or a line that no report has";
@@ -77,6 +81,10 @@ static inline const char *rb_refusal_text(uint32_t number) {
     case RB_REFUSAL_NO_TICKET_LEFT: return "no ticket is left";
     case RB_REFUSAL_UNSOUND: return "the session table is unsound";
     case RB_REFUSAL_NOTHING_UNANSWERED: return "no command is unanswered";
+    case RB_REFUSAL_OPEN_STRING: return "the string is not closed before the end of the file";
+    case RB_REFUSAL_BROKEN_STRING: return "a forbidden byte in the string, or more than 255 bytes";
+    case RB_REFUSAL_MISSHAPEN: return "a word that is too long, or neither a number nor a time";
+    case RB_REFUSAL_END_OF_FILE: return "the file ends too early";
     default: return "unknown refusal";
     }
 }
@@ -107,8 +115,9 @@ typedef struct { uint32_t n; } rb_ticket;         /* from 1 on */
 /* ---- job files */
 
 /* Reads a whole job file, and puts the offset of each statement into offsets and their count into *statements. Places beyond stay.
- * RB_REFUSAL_FILE_TOO_LONG; then the leftmost of RB_REFUSAL_NO_TOKEN, RB_REFUSAL_TOO_MANY_STATEMENTS, RB_REFUSAL_NOT_REAL,
- * RB_REFUSAL_UNEXPECTED; then RB_REFUSAL_TOO_FEW_PLACES. */
+ * RB_REFUSAL_FILE_TOO_LONG; then the leftmost of RB_REFUSAL_NO_TOKEN, RB_REFUSAL_OPEN_STRING, RB_REFUSAL_BROKEN_STRING,
+ * RB_REFUSAL_MISSHAPEN, RB_REFUSAL_TOO_MANY_STATEMENTS, RB_REFUSAL_NOT_REAL, RB_REFUSAL_UNEXPECTED, RB_REFUSAL_END_OF_FILE; then
+ * RB_REFUSAL_TOO_FEW_PLACES. */
 rb_result rb_read_job(const uint8_t *file, size_t file_bytes, uint32_t *offsets, size_t places, size_t *statements);
 
 #define RB_STATEMENT_JOB 1u
@@ -172,7 +181,8 @@ rb_result rb_read_statement_numbers(const uint8_t *file, size_t file_bytes, size
 
 /* Reads the statement that begins at the offset at, up to its ; and nothing beyond.
  * RB_REFUSAL_FILE_TOO_LONG, RB_REFUSAL_OUT_OF_RANGE (an offset past the file's length); then the leftmost of RB_REFUSAL_NO_TOKEN,
- * RB_REFUSAL_NOT_REAL, RB_REFUSAL_UNEXPECTED. */
+ * RB_REFUSAL_OPEN_STRING, RB_REFUSAL_BROKEN_STRING, RB_REFUSAL_MISSHAPEN, RB_REFUSAL_NOT_REAL, RB_REFUSAL_UNEXPECTED,
+ * RB_REFUSAL_END_OF_FILE. */
 static inline rb_result rb_read_statement(const uint8_t *file, size_t file_bytes, size_t at, rb_statement *statement) {
     uint64_t numbers[RB_STATEMENT_NUMBERS];
     int64_t mantissa;

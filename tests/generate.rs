@@ -120,7 +120,10 @@ fn any_token(r: &mut Random) -> Vec<u8> {
             let n = r.from(256, 300);
             word_of(r, n)
         }
-        11 => [b"\"", &(0..r.from(256, 258)).map(|_| b'q').collect::<Vec<u8>>()[..], b"\""].concat(),
+        11 => {
+            let n = r.from(254, 258);
+            [b"\"", &vec![b'q'; n][..], r.pick(&[b"\"" as &[u8], b"", b"\t", b"\n\"", b"\xff"])].concat()
+        }
         12 => digits(r, 17),
         13 => r.pick(&[b"5." as &[u8], b"1.2.3", b"1e5", b"12:00", b"-12:00:00", b"--1", b".5", b"-", b"!", b"/", b"5x", b"1-1", b"2024.0430"]).to_vec(),
         14 => r

@@ -38,7 +38,7 @@ static void jobs(void) {
         rb_refusal_number(rb_read_job(file, n, offsets, RB_MAX_STATEMENTS + 1, &statements)));
     memset(file, ' ', sizeof file);
     rb_result end = rb_read_job(file, RB_MAX_JOB_BYTES, offsets, RB_MAX_STATEMENTS, &statements);
-    see("the longest file, of blanks", RB_REFUSAL_UNEXPECTED, rb_refusal_number(end));
+    see("the longest file, of blanks", RB_REFUSAL_END_OF_FILE, rb_refusal_number(end));
     see("its end", RB_MAX_JOB_BYTES, rb_refusal_place(end));
     see("one byte more", RB_REFUSAL_FILE_TOO_LONG, rb_read_job(file, sizeof file, offsets, RB_MAX_STATEMENTS, &statements));
     file[0] = file[RB_MAX_TEXT_BYTES + 1] = '"';
@@ -46,6 +46,13 @@ static void jobs(void) {
     file[RB_MAX_TEXT_BYTES + 1] = ' ';
     file[RB_MAX_TEXT_BYTES + 2] = '"';
     see("one byte more of it", false, rb_is_text_at(file, sizeof file, 0));
+    rb_result text = rb_read_job(file, RB_MAX_TEXT_BYTES + 1, offsets, RB_MAX_STATEMENTS, &statements);
+    see("the longest text, and then the end", RB_REFUSAL_OPEN_STRING, text);
+    text = rb_read_job(file, RB_MAX_TEXT_BYTES + 2, offsets, RB_MAX_STATEMENTS, &statements);
+    see("one byte more, and then the end", RB_REFUSAL_BROKEN_STRING, text);
+    file[RB_MAX_TEXT_BYTES + 1] = '\n';
+    text = rb_read_job(file, RB_MAX_TEXT_BYTES + 2, offsets, RB_MAX_STATEMENTS, &statements);
+    see("the longest text, and then a line break", RB_REFUSAL_BROKEN_STRING, text);
 }
 
 /* ---- records and names */
@@ -149,12 +156,12 @@ static void tables(void) {
 /* ---- refusals */
 
 static void refusals(void) {
-    rb_result most = UINT64_MAX - 255u + RB_REFUSAL_NOTHING_UNANSWERED;
-    see("the number beside the largest place", RB_REFUSAL_NOTHING_UNANSWERED, rb_refusal_number(most));
+    rb_result most = UINT64_MAX - 255u + RB_REFUSAL_END_OF_FILE;
+    see("the number beside the largest place", RB_REFUSAL_END_OF_FILE, rb_refusal_number(most));
     see("the largest place", ((uint64_t)1 << 56) - 1, rb_refusal_place(most));
-    for (uint32_t a = 0; a <= RB_REFUSAL_NOTHING_UNANSWERED + 1; a++)
+    for (uint32_t a = 0; a <= RB_REFUSAL_END_OF_FILE + 1; a++)
         for (uint32_t b = 0; b < a; b++) see("two refusals have the same words", false, !strcmp(rb_refusal_text(a), rb_refusal_text(b)));
-    see("unknown refusals have the same words", 0, (uint64_t)strcmp(rb_refusal_text(RB_REFUSAL_NOTHING_UNANSWERED + 1), rb_refusal_text(UINT32_MAX)));
+    see("unknown refusals have the same words", 0, (uint64_t)strcmp(rb_refusal_text(RB_REFUSAL_END_OF_FILE + 1), rb_refusal_text(UINT32_MAX)));
 }
 
 int main(void) {

@@ -15,8 +15,8 @@ use random::Random;
 
 /// The numbers that each call must have returned in a run, so that no refusal goes untried.
 const RETURNS: [(char, &[u64]); 16] = [
-    ('J', &[0, 1, 2, 3, 4, 5, 6]),
-    ('S', &[0, 1, 3, 4, 5, 11]),
+    ('J', &[0, 1, 2, 3, 4, 5, 6, 15, 16, 17, 18]),
+    ('S', &[0, 1, 3, 4, 5, 11, 15, 16, 17, 18]),
     ('T', &[0, 1]),
     ('D', &[0, 1]),
     ('W', &[0, 5, 7, 8]),

@@ -93,8 +93,8 @@ fn statement_tokens(file: &[u8], from: usize, mut forms: Vec<Form>) -> Result<Ve
     let mut place = from;
     loop {
         let t = match next(file, place) {
-            Next::NoToken(p) => return at(3, p),
-            Next::End => return at(4, file.len()),
+            Next::NoToken(number, p) => return at(number, p),
+            Next::End => return at(18, file.len()),
             Next::Token(t) => t,
         };
         let i = tokens.len();

@@ -24,8 +24,8 @@ pub struct Token {
 #[derive(Clone, Copy, Debug, PartialEq, Eq)]
 pub enum Next {
     Token(Token),
-    /// The next bytes are no token; the place is the first of them.
-    NoToken(usize),
+    /// The next bytes are no token: the number that they are refused with, and the place of the first of them.
+    NoToken(u32, usize),
     End,
 }
 
@@ -38,14 +38,22 @@ pub const RESERVED: [&[u8]; 14] = [
 /// The operators, a longer one before its own beginning.
 pub const OPERATORS: [&[u8]; 6] = [b"!=", b">=", b"<=", b"=", b">", b"<"];
 
-/// "byte 34, then 0 to 255 bytes from 32 to 254 other than 34, then byte 34": the content's length, where a whole string begins there.
-pub fn text_length(bytes: &[u8]) -> Option<usize> {
-    let (first, rest) = bytes.split_first()?;
-    if *first != 34 {
-        return None;
+/// "byte 34, then 0 to 255 bytes from 32 to 254 other than 34, then byte 34": the content's length. Else P2's number, by what the bytes
+/// after the opening quote meet first: 15 the end of the file, 16 a forbidden byte or a 256th content byte.
+fn text_after_quote(rest: &[u8]) -> Result<usize, u32> {
+    for (content, byte) in rest.iter().enumerate() {
+        match byte {
+            34 => return Ok(content),
+            32..=254 if content < 255 => {}
+            _ => return Err(16),
+        }
     }
-    let content = rest.iter().take_while(|b| (32..=254).contains(*b) && **b != 34).count();
-    (content <= 255 && rest.get(content) == Some(&34)).then_some(content)
+    Err(15)
+}
+
+/// The content's length, where a whole string begins there.
+pub fn text_length(bytes: &[u8]) -> Option<usize> {
+    text_after_quote(bytes.strip_prefix(&[34])?).ok()
 }
 
 /// "Number: 1 to 16 digits in all, with at most one point that has a digit on each side", after its sign.
@@ -77,31 +85,33 @@ fn run_length(bytes: &[u8], member: impl Fn(u8) -> bool) -> usize {
     bytes.iter().take_while(|b| member(**b)).count()
 }
 
-/// The kind and the length of the token that the bytes begin with.
-fn first_token(bytes: &[u8]) -> Option<(Kind, usize)> {
+/// The kind and the length of the token that the bytes begin with. Else P2's number: 15 or 16 for a string, 17 for "an overlong word or
+/// misshapen numeric run", 3 for "a byte that starts no token, a lone !, / or - too".
+fn first_token(bytes: &[u8]) -> Result<(Kind, usize), u32> {
     let first = bytes[0];
     if first.is_ascii_alphabetic() {
         let n = run_length(bytes, |b| b.is_ascii_alphanumeric() || b == b'_');
         if bytes.starts_with(b"TIME>=") && n == 4 {
-            return Some((Kind::TimeFrom, 6));
+            return Ok((Kind::TimeFrom, 6));
         }
-        return (n <= 255).then_some((Kind::Word, n));
+        return if n <= 255 { Ok((Kind::Word, n)) } else { Err(17) };
     }
     let sign = usize::from(first == b'-');
     if bytes.get(sign).is_some_and(u8::is_ascii_digit) {
         let n = sign + run_length(&bytes[sign..], |b| b.is_ascii_alphanumeric() || b == b'_' || b == b'.' || b == b':');
-        if is_number(&bytes[..n]) {
-            return Some((Kind::Number, n));
-        }
-        return is_time(&bytes[..n]).then_some((Kind::Time, n));
+        return match &bytes[..n] {
+            run if is_number(run) => Ok((Kind::Number, n)),
+            run if is_time(run) => Ok((Kind::Time, n)),
+            _ => Err(17),
+        };
     }
     if first == 34 {
-        return text_length(bytes).map(|n| (Kind::Text, n + 2));
+        return text_after_quote(&bytes[1..]).map(|n| (Kind::Text, n + 2));
     }
     if first == b';' {
-        return Some((Kind::Semicolon, 1));
+        return Ok((Kind::Semicolon, 1));
     }
-    OPERATORS.iter().find(|o| bytes.starts_with(o)).map(|o| (Kind::Operator, o.len()))
+    OPERATORS.iter().find(|o| bytes.starts_with(o)).map(|o| (Kind::Operator, o.len())).ok_or(3)
 }
 
 /// The first token at `at` or after it.
@@ -111,8 +121,8 @@ pub fn next(file: &[u8], at: usize) -> Next {
         return Next::End;
     }
     match first_token(&file[start..]) {
-        Some((kind, length)) => Next::Token(Token { kind, start, end: start + length }),
-        None => Next::NoToken(start),
+        Ok((kind, length)) => Next::Token(Token { kind, start, end: start + length }),
+        Err(number) => Next::NoToken(number, start),
     }
 }
 

@@ -13,8 +13,8 @@ use Rattle.c_numbers.specs.Kinds.{kindNumber}
 abbrev pub placeLimit : ℕ
 placeLimit = 72057594037927936
 
--- "A refusal returns its number, the place for 3 to 6 in a file (else 0)", and P1: "7, reading with the start of the first line that doesn't fit": 0
--- where there is none, else 64 bits, the number in the low eight and the place in the 56 above.
+-- "A refusal returns its number, the place for 3 to 6 in a file (else 0)", P1: "7, reading with the start of the first line that doesn't fit", and P2:
+-- "15 to 17 where 3 stood and 18 where 4 did": 0 where there is none, else 64 bits, the number in the low eight and the place in the 56 above.
 abbrev pub returned : {A : Type 0} → Result A → ℕ
 returned (refused number place) = number % 256 + 256 * (place % placeLimit)
 returned (done x) = 0
@@ -65,4 +65,4 @@ GivesStatement a r numbers numbers' mantissa mantissa' =
 
 -- The version of the calls that the header declares: one more with each change of a name, a type, a number or a size there.
 abbrev pub version : ℕ
-version = 3
+version = 4

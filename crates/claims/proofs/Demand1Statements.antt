@@ -3,7 +3,6 @@ use Prim.Native.Nat.{ℕ, _≤_}
 use mathlib.Core.Path.{_≡_, refl, sym, subst}
 use mathlib.Core.Bool.{Bool, true, false}
 use mathlib.Core.List.{List, [], _∷_}
-use mathlib.Core.Logic.{inl, inr}
 use lib.Dec.{leb}
 use lib.ListN.{length}
 use borrow.Author.Tests.{leb-true, leb-false}
@@ -18,9 +17,9 @@ use Rattle.job_claims.specs.Rows.{One}
 use Rattle.job_claims.proofs.One as row
 use Rattle.job_claims.proofs.One.{Judged, one-says}
 use Rattle.job_claims.proofs.Tiles.{ReadsOne, reads-one}
-use Rattle.job_claims.proofs.Statements.{no-statement, reading-exactly, statement-one-exactly, statement-eleven-exactly, statement-three-exactly, statement-five-exactly, statement-four-exactly}
+use Rattle.job_claims.proofs.Statements.{no-statement, reading-exactly, statement-one-exactly, statement-eleven-exactly, statement-three-exactly, statement-fifteen-exactly, statement-sixteen-exactly, statement-seventeen-exactly, statement-five-exactly, statement-four-exactly, statement-eighteen-exactly}
 use Rattle.claims.specs.Exactly.{Exactly}
-use Rattle.claims.specs.StatementRows.{StatementRow, one, eleven, three, five, four-token, four-end, is-read}
+use Rattle.claims.specs.StatementRows.{StatementRow, one, eleven, three, fifteen, sixteen, seventeen, five, four, eighteen, is-read}
 
 module _ (s : List ℕ) (at : ℕ) where
   row-is : (v : Result StatementAt) → StatementRow s at v → readStatement s at ≡ v
@@ -28,8 +27,11 @@ module _ (s : List ℕ) (at : ℕ) where
   row-is v (eleven l m) = statement-eleven-exactly s at 0 .1 (l, m, refl)
   row-is v (three {p = p} l m r) = statement-three-exactly s at p .1 (l, m, r)
   row-is v (five {p = p} l m r) = statement-five-exactly s at p .1 (l, m, r)
-  row-is v (four-token {p = p} l m r) = statement-four-exactly s at p .1 (l, m, inl r)
-  row-is v (four-end {p = p} l m r) = statement-four-exactly s at p .1 (l, m, inr r)
+  row-is v (fifteen {p = p} l m r) = statement-fifteen-exactly s at p .1 (l, m, r)
+  row-is v (sixteen {p = p} l m r) = statement-sixteen-exactly s at p .1 (l, m, r)
+  row-is v (seventeen {p = p} l m r) = statement-seventeen-exactly s at p .1 (l, m, r)
+  row-is v (four {p = p} l m r) = statement-four-exactly s at p .1 (l, m, r)
+  row-is v (eighteen {p = p} l m r) = statement-eighteen-exactly s at p .1 (l, m, r)
   row-is v (is-read {x = x} {o = o} {e = e} l m r) = reading-exactly s at x o e .1 (l, m, r)
 
   abbrev SomeRow : Type 0
@@ -46,8 +48,11 @@ module _ (s : List ℕ) (at : ℕ) where
   judged l m x (row.read {e = e} (t ∷ a, f, w)) =
       reads l m (w .0) (t .place) e (record { first = t; more = a; stand = f; reads = w .1; begins = refl })
   judged l m x (row.three r) = (_, three l m r)
-  judged l m x (row.four-end r) = (_, four-end l m r)
-  judged l m x (row.four-token r) = (_, four-token l m r)
+  judged l m x (row.fifteen r) = (_, fifteen l m r)
+  judged l m x (row.sixteen r) = (_, sixteen l m r)
+  judged l m x (row.seventeen r) = (_, seventeen l m r)
+  judged l m x (row.eighteen r) = (_, eighteen l m r)
+  judged l m x (row.four r) = (_, four l m r)
   judged l m x (row.five r) = (_, five l m r)
 
   some-row : SomeRow

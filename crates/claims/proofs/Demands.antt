@@ -26,12 +26,14 @@ use Rattle.item.proofs.Moments.{date-says, no-other-date, time-says}
 use Rattle.item.proofs.Spelled.{in-file-exactly}
 use Rattle.job.specs.Job.{readJob, filled}
 use Rattle.job.specs.Statement.{textAt}
-use Rattle.job_claims.proofs.Claims.{judged, only, taken-exactly, one-exactly, two-exactly, three-exactly, four-exactly, five-exactly, six-exactly, statements-exactly, one-reading, end-is-last}
+use Rattle.job_claims.proofs.Claims.{judged, only, taken-exactly, one-exactly, two-exactly, three-exactly, fifteen-exactly, sixteen-exactly, seventeen-exactly, four-exactly, eighteen-exactly, five-exactly, six-exactly, statements-exactly, one-reading, end-is-last}
 use Rattle.job_claims.proofs.Determined.{one-job-answer, one-statement-answer}
 use Rattle.job_claims.proofs.Statements.{reading-exactly}
+use Rattle.job_claims.proofs.Hands.{job-tells, statement-tells, end-exactly, no-token-begins, one-hand}
 use Rattle.meaning.proofs.Lossless.{one-statement}
 use Rattle.number.proofs.Numerals.{numeral-reads, minus-zero}
 use Rattle.item.proofs.NumberTokens.{number-token-exactly, number-is-small}
+use Rattle.item.proofs.NoTokens.{stray-exactly, open-string-exactly, broken-string-exactly, misshapen-exactly, end-after-255, end-after-256, forbidden-after-255}
 use Rattle.token.specs.Token.{WholeString, isTextAt, contentAt}
 use Rattle.token.proofs.Whole.{whole-string-exactly, string-token-exactly}
 use Rattle.report.specs.Report.{Told}
@@ -48,7 +50,7 @@ use Rattle.session_histories.proofs.Fresh.{fresh-bytes}
 use Rattle.sessions.proofs.Laws.{in-range}
 use Rattle.sessions.specs.Table.{within, fresh}
 use Rattle.table_sound.specs.Bytes.{abs}
-use Rattle.claims.specs.Demands.{Demand1, Demand2, Reports, StoredDates}
+use Rattle.claims.specs.Demands.{Demand1, Demand2, Hands, Reports, StoredDates}
 use Rattle.claims.proofs.Demand1.{one-result}
 use Rattle.claims.proofs.Demand1Names.{read-name-exactly, write-name-exactly, refused-write-changes-nothing, read-name-determined, write-name-determined}
 use Rattle.claims.proofs.Demand1Records.{read-record-exactly, write-record-exactly, refused-record-changes-nothing, read-record-determined, write-record-determined}
@@ -187,9 +189,13 @@ demand-2 =
       reading = reading-exactly;
       one = one-exactly;
       three = three-exactly;
+      fifteen = fifteen-exactly;
+      sixteen = sixteen-exactly;
+      seventeen = seventeen-exactly;
       six = six-exactly;
       five = five-exactly;
       four = four-exactly;
+      eighteen = eighteen-exactly;
       two = two-exactly;
       end-is-last = λ s p. end-is-last s 0 p;
       in-file = in-file-exactly;
@@ -215,6 +221,25 @@ demand-2 =
       record-length = records.lengths;
       name-write-then-read = names.write-then-read;
       name-read-then-write = names.read-then-write;
+    }
+
+-- ---- what is wrong with the token
+
+pub hands : Hands
+hands =
+    record {
+      stray = stray-exactly;
+      open-string = open-string-exactly;
+      broken-string = broken-string-exactly;
+      misshapen-token = misshapen-exactly;
+      end-after-255 = end-after-255;
+      end-after-256 = end-after-256;
+      forbidden-after-255 = forbidden-after-255;
+      job-tells = job-tells;
+      statement-tells = statement-tells;
+      end-exactly = end-exactly;
+      no-token-begins = no-token-begins;
+      one-hand = one-hand;
     }
 
 -- ---- report files

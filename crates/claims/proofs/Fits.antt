@@ -21,8 +21,8 @@ use Rattle.claims.specs.TableRows as row
 use Rattle.claims.specs.StatementRows.{StatementRow}
 use Rattle.claims.proofs.Demand1Statements.{read-statement-exactly}
 
--- a number from 1 to 14 without a place
-without-place : {n : ℕ} → 1 ≤ n → n ≤ 14 → (1 ≤ n) × (n ≤ 14) × (0 ≤ fileBytes)
+-- a number from 1 to 18 without a place
+without-place : {n : ℕ} → 1 ≤ n → n ≤ 18 → (1 ≤ n) × (n ≤ 18) × (0 ≤ fileBytes)
 without-place l h = (l, h, omega arith)
 
 pub read-name-fits : (max : ℕ) (bytes : List ℕ) → Fits (name.ReadNameRow max bytes)

@@ -4,12 +4,12 @@
 use Prim.Native.Nat.{ℕ, _+_, _-_, _*_, _^_, _≤_, _<_}
 use mathlib.Core.Path.{_≡_}
 use mathlib.Core.Bool.{Bool, true, false, cond}
-use mathlib.Core.List.{List, [], _∷_, _++_}
+use mathlib.Core.List.{List, [], _∷_, _++_, List·Memᴰ}
 use mathlib.Core.Logic.{_↔_, _⊎_}
 use lib.IntN.{natAbs}
 use lib.ListN.{length, getD, drop}
 use Rattle.counts.specs.Limits.{fileBytes, commands, sessions}
-use Rattle.counts.specs.Refusals.{fileTooLong, tooFewPlaces, noToken, unexpected, notReal, tooManyStatements, notARecord, unsound}
+use Rattle.counts.specs.Refusals.{fileTooLong, tooFewPlaces, noToken, unexpected, notReal, tooManyStatements, notARecord, outOfRange, unsound, openString, brokenString, misshapen, endOfFile}
 use Rattle.counts.specs.Result.{Result, refused, done, counted}
 use Rattle.field.specs.Bytes.{ascii}
 use Rattle.field.specs.Part.{part, put}
@@ -26,12 +26,14 @@ use Rattle.grammar.specs.Grammar.Class.{number as noDate, date, unrealDate}
 use Rattle.grammar.specs.Statement.{Statement}
 use Rattle.grammar.specs.Productions.{Placed, File, Begins}
 use Rattle.grammar.specs.Reading.{OffsetsRead as Reading}
-use Rattle.grammar.specs.Rows.{Three, FourToken, FourEnd, Five, Six}
-use Rattle.token.specs.Token.{WholeString, isTextAt, contentAt, tokenAt, nextToken}
-use Rattle.token.specs.declared.Token.the-variants.{Number, Text}
+use Rattle.grammar.specs.Rows.{Three, Fifteen, Sixteen, Seventeen, Four, Eighteen, Five, Six}
+use Rattle.token.specs.Token.{ContentByte, WholeString, isTextAt, contentAt, tokenAt, nextToken}
+use Rattle.token.specs.declared.Token.the-variants.{NoToken, Number, Text}
+use Rattle.token.specs.declared.Why.the-variants.{Stray, OpenString, BrokenString, Misshapen}
 use Rattle.number.specs.Number.{Numeral, signedOf, numberOf}
 use Rattle.item.specs.Tokens.{numberClass, dateNumber, timeNumber, Tokens, lineAt, line}
 use Rattle.item.specs.Numbers.{NumberFrom}
+use Rattle.item.specs.NoToken.{StartsNoToken, StringMeetsEnd, Forbidden, StringBreaks, OverlongWord, MisshapenRun}
 use Rattle.item.specs.Files.{InFile}
 use Rattle.statement.specs.declared.Statement.{Statement as StatementRead}
 use Rattle.meaning.specs.Paper.{paperStatement}
@@ -39,6 +41,7 @@ use Rattle.job.specs.Job.{readJob, filled, paperJob}
 use Rattle.job.specs.Statement.{placed as placedAt, Tiled, readStatement, paperStatementAt, textAt}
 use Rattle.job_claims.specs.Verdict.{Verdict, Taken, Crowded}
 use Rattle.job_claims.specs.Rows.{One}
+use Rattle.job_claims.specs.Hands.{TokenBegins, Tells}
 use Rattle.delimited.specs.Lines.{isDelimiter, fields, Parts}
 use Rattle.report.specs.Report.{Rows, reportText, Report, Breaks, Told, told}
 use Rattle.report.specs.Reading.{readReport}
@@ -176,16 +179,19 @@ pub record Demand2 : Type 0 where
   pub reading : (s : List ℕ) (at : ℕ) (x : StatementRead) (o e : ℕ)
       → readStatement s at ≡ done (placedAt x o e) ↔ (length s ≤ fileBytes) × (at ≤ length s) × One s at (paperStatement x) o e
   -- "a break is named by its leftmost place": "tested for 1, then from the left; the leftmost place decides, and at one place 3 goes before 6, 6 before
-  -- 5, 5 before 4. Then 2."
+  -- 5, 5 before 4. Then 2."; P2: "All places and the order stay, with 15 to 17 where 3 stood and 18 where 4 did."
   pub one : (s : List ℕ) (room p : ℕ) → readJob s room ≡ refused fileTooLong p ↔ (fileBytes < length s) × p ≡ 0
   pub three : (s : List ℕ) (room p : ℕ) → readJob s room ≡ refused noToken p ↔ (length s ≤ fileBytes) × Three (line s .tokens) (line s .last) p
+  pub fifteen : (s : List ℕ) (room p : ℕ) → readJob s room ≡ refused openString p ↔ (length s ≤ fileBytes) × Fifteen (line s .tokens) (line s .last) p
+  pub sixteen : (s : List ℕ) (room p : ℕ) → readJob s room ≡ refused brokenString p ↔ (length s ≤ fileBytes) × Sixteen (line s .tokens) (line s .last) p
+  pub seventeen : (s : List ℕ) (room p : ℕ) → readJob s room ≡ refused misshapen p ↔ (length s ≤ fileBytes) × Seventeen (line s .tokens) (line s .last) p
   pub six : (s : List ℕ) (room p : ℕ) → readJob s room ≡ refused tooManyStatements p ↔ (length s ≤ fileBytes) × Six (line s .tokens) p
   pub five : (s : List ℕ) (room p : ℕ) → readJob s room ≡ refused notReal p ↔ (length s ≤ fileBytes) × Five (line s .tokens) p
-  pub four : (s : List ℕ) (room p : ℕ)
-      → readJob s room ≡ refused unexpected p ↔ (length s ≤ fileBytes) × (FourToken (line s .tokens) p ⊎ FourEnd (line s .tokens) (line s .last) p)
+  pub four : (s : List ℕ) (room p : ℕ) → readJob s room ≡ refused unexpected p ↔ (length s ≤ fileBytes) × Four (line s .tokens) p
+  pub eighteen : (s : List ℕ) (room p : ℕ) → readJob s room ≡ refused endOfFile p ↔ (length s ≤ fileBytes) × Eighteen (line s .tokens) (line s .last) p
   pub two : (s : List ℕ) (room p : ℕ) → readJob s room ≡ refused tooFewPlaces p ↔ ((os : List ℕ) × Crowded s room os) × p ≡ 0
   -- "the end is at the file's length"
-  pub end-is-last : (s : List ℕ) (p : ℕ) → FourEnd (line s .tokens) (line s .last) p → p ≡ length s
+  pub end-is-last : (s : List ℕ) (p : ℕ) → Eighteen (line s .tokens) (line s .last) p → p ≡ length s
   -- 4 speaks of what "legal" files have: what may stand by its tokens does stand in a file
   pub in-file : (a : List Placed) → Begins a ↔ InFile a
   -- the paper's value of a statement loses nothing
@@ -227,6 +233,28 @@ pub record Demand2 : Type 0 where
       → name.nameRead max (part (name.writtenBytes max n kind out) 0 12) ≡ done (n, kind)
   pub name-read-then-write : (max n : ℕ) (kind : Kind) (bytes out : List ℕ) → name.nameRead max bytes ≡ done (n, kind) → 12 ≤ length out
       → (name.written max n out ≡ done 12) × (part (name.writtenBytes max n kind out) 0 12 ≡ bytes)
+
+-- ---- What is wrong with the token (document 02, P2): "An open quote and a stray byte need different hands, and so do a cut file and a misplaced word."
+
+pub record Hands : Type 0 where
+  -- why no token stands at a place is what the bytes there say, in the words of 3, 15, 16 and 17
+  pub stray : (s : List ℕ) (i p : ℕ) → tokenAt s i ≡ NoToken Stray p ↔ ((p ≡ i) × StartsNoToken s i)
+  pub open-string : (s : List ℕ) (i p : ℕ) → tokenAt s i ≡ NoToken OpenString p ↔ ((p ≡ i) × StringMeetsEnd s i)
+  pub broken-string : (s : List ℕ) (i p : ℕ) → tokenAt s i ≡ NoToken BrokenString p ↔ ((p ≡ i) × StringBreaks s i)
+  pub misshapen-token : (s : List ℕ) (i p : ℕ) → tokenAt s i ≡ NoToken Misshapen p ↔ ((p ≡ i) × (OverlongWord s i ⊎ MisshapenRun s i))
+  -- "meets .. first", of a string with the content bytes c: 255 of them and then the end; 256 and then the end; 255 and then a forbidden byte, whatever is after it
+  pub end-after-255 : (c : List ℕ) → ((b : ℕ) → List·Memᴰ b c → ContentByte b) → length c ≡ 255 → tokenAt (34 ∷ c) 0 ≡ NoToken OpenString 0
+  pub end-after-256 : (c : List ℕ) → ((b : ℕ) → List·Memᴰ b c → ContentByte b) → length c ≡ 256 → tokenAt (34 ∷ c) 0 ≡ NoToken BrokenString 0
+  pub forbidden-after-255 : (c : List ℕ) → ((b : ℕ) → List·Memᴰ b c → ContentByte b) → length c ≡ 255 → (met : ℕ) → Forbidden met → (after : List ℕ)
+      → tokenAt (34 ∷ (c ++ (met ∷ after))) 0 ≡ NoToken BrokenString 0
+  -- the number alone tells what stands at the place of a refusal, of a whole file and of one statement
+  pub job-tells : (s : List ℕ) (room n p : ℕ) → readJob s room ≡ refused n p → (n ≡ fileTooLong) ⊎ ((n ≡ tooFewPlaces) ⊎ Tells s p n)
+  pub statement-tells : (s : List ℕ) (at n p : ℕ) → readStatement s at ≡ refused n p → (n ≡ fileTooLong) ⊎ ((n ≡ outOfRange) ⊎ Tells s p n)
+  -- 18 exactly at the file's length; 3, 15, 16 and 17 only where no token begins, and there one of them
+  pub end-exactly : (s : List ℕ) (n p : ℕ) → Tells s p n → (n ≡ endOfFile) ↔ (p ≡ length s)
+  pub no-token-begins : (s : List ℕ) (p : ℕ) → TokenBegins s p
+      → (StartsNoToken s p → ⊥) × (StringMeetsEnd s p → ⊥) × (StringBreaks s p → ⊥) × (OverlongWord s p ⊎ MisshapenRun s p → ⊥)
+  pub one-hand : (s : List ℕ) (n m p : ℕ) → Tells s p n → Tells s p m → (n ≡ m) ⊎ TokenBegins s p
 
 -- ---- Report files (document 02, P1), over the delimiter, of which only "comma, semicolon, vertical bar or tab" is known
 

@@ -1,5 +1,5 @@
--- The examples that document 01 marks with a star, both ends, sign and zero of its numbers, and, of document 02, some report files of P1 and dates of P4, in
--- one table: the words, and the test that they are, on the definitions that the contracts cite. `proofs/Examples` proves that every row holds, by one
+-- The examples that document 01 marks with a star, with P2's numbers, both ends, sign and zero of its numbers, and, of document 02, some report files of P1,
+-- the words of P2 and dates of P4, in one table: the words, and the test that they are, on the definitions that the contracts cite. `proofs/Examples` proves that every row holds, by one
 -- computation.
 use Prim.Native.Nat.{ℕ}
 use Prim.Native.String.{String}
@@ -11,7 +11,7 @@ use lib.ListN.{length}
 use Rattle.field.specs.Bytes.{ascii, same}
 use Rattle.calendar.specs.Calendar.{realDate, realTime}
 use Rattle.counts.specs.Limits.{statements}
-use Rattle.counts.specs.Refusals.{noToken, unexpected, notARecord, tooLittleRoom, outOfRange}
+use Rattle.counts.specs.Refusals.{noToken, unexpected, notARecord, tooLittleRoom, outOfRange, openString, brokenString, misshapen, endOfFile}
 use Rattle.counts.specs.Result.{Result, refused, done}
 use Rattle.job.specs.Job.{readJob}
 use Rattle.number.specs.Number.{numberOf}
@@ -63,7 +63,7 @@ sameNumber x y = sameWhole (x .mantissa) (y .mantissa) && eqb (x .scale) (y .sca
 abbrev pub job : String → Result (List ℕ)
 job text = readJob (ascii text) statements
 
--- the text is a token, though none that a file begins with (else 3), and reads as a number with this mantissa and scale
+-- the text is a token, though none that a file begins with (else 17), and reads as a number with this mantissa and scale
 abbrev pub reads : String → ℤ → ℕ → Bool
 reads text mantissa scale = isRefused unexpected 0 (job text) && sameNumber (numberOf (ascii text)) (record { mantissa = mantissa; scale = scale })
 
@@ -87,20 +87,26 @@ isWrittenAgain text (done t) = isBytes (ascii text) (written (ascii text) (t .ce
 
 unfoldable pub examples : List Row
 examples =
-    row "empty file: 4 at 0" (isRefused unexpected 0 (job ""))
-    ∷ row "JOB: 4 at 3" (isRefused unexpected 3 (job "JOB"))
-    ∷ row "JOB t1 RESPONSE \"t1.log\": 4 at 24" (isRefused unexpected 24 (job "JOB t1 RESPONSE \"t1.log\""))
+    row "empty file: 18 at 0" (isRefused endOfFile 0 (job ""))
+    ∷ row "JOB: 18 at 3" (isRefused endOfFile 3 (job "JOB"))
+    ∷ row "JOB t1 RESPONSE \"t1.log\": 18 at 24" (isRefused endOfFile 24 (job "JOB t1 RESPONSE \"t1.log\""))
     ∷ row "the same with ;: one statement" (isTakenAt (0 ∷ []) (job "JOB t1 RESPONSE \"t1.log\";"))
     ∷ row "JOB START RESPONSE \"x\";: 4 at 4" (isRefused unexpected 4 (job "JOB START RESPONSE \"x\";"))
-    ∷ row "JOB a RESPONSE \"x: 3 at 15" (isRefused noToken 15 (job "JOB a RESPONSE \"x"))
+    ∷ row "JOB a RESPONSE \"x: 15 at 15" (isRefused openString 15 (job "JOB a RESPONSE \"x"))
+    ∷ row "a line break in a string: 16 at its opening quote" (isRefused brokenString 15 (job "JOB a RESPONSE \"x\r\ny\";"))
+    ∷ row "a lone !: 3" (isRefused noToken 0 (job "! ="))
+    ∷ row "a lone /: 3" (isRefused noToken 4 (job "JOB / a"))
+    ∷ row "a lone -: 3" (isRefused noToken 0 (job "- 1"))
+    ∷ row "1.2.3: 17 at its first byte" (isRefused misshapen 1 (job " 1.2.3"))
+    ∷ row "-12:00:00: 17 at the sign" (isRefused misshapen 0 (job "-12:00:00"))
     ∷ row "-0 equals 0" (sameNumber (numberOf (ascii "-0")) (numberOf (ascii "0")))
     ∷ row "-0: 0, scale 0" (reads "-0" (pos 0) 0)
     ∷ row "0.000000000000000: 0, scale 15" (reads "0.000000000000000" (pos 0) 15)
     ∷ row "9999999999999999: 10^16 - 1, scale 0" (reads "9999999999999999" (pos 9999999999999999) 0)
     ∷ row "-9999999999999999: 1 - 10^16, scale 0" (reads "-9999999999999999" (negℤ (pos 9999999999999999)) 0)
     ∷ row "-1234567890.123456: the same digits, scale 6" (reads "-1234567890.123456" (negℤ (pos 1234567890123456)) 6)
-    ∷ row "17 digits: 3" (isRefused noToken 0 (job "12345678901234567"))
-    ∷ row "17 digits with a point: 3" (isRefused noToken 0 (job "1234567890.1234567"))
+    ∷ row "17 digits: 17" (isRefused misshapen 0 (job "12345678901234567"))
+    ∷ row "17 digits with a point: 17" (isRefused misshapen 0 (job "1234567890.1234567"))
     ∷ row "PROCESSED, n 1, empty text: 43 bytes" (eqb (recordLength Processed) 43)
     ∷ row "ERROR: 51" (eqb (recordLength (Error 6 16)) 51)
     ∷ row "date 20240431: refused" (not (realDate 20240431))

@@ -1,4 +1,4 @@
--- Every refusal of every call fits the one number that C gets: its number is from 1 to 14, and its place is at most a file's length, which for a job
+-- Every refusal of every call fits the one number that C gets: its number is from 1 to 18, and its place is at most a file's length, which for a job
 -- file is 65,535.
 use Prim.Native.Nat.{ℕ, _≤_}
 use Rattle.counts.specs.Limits.{fileBytes}
@@ -6,7 +6,7 @@ use Rattle.counts.specs.Result.{Result, refused}
 
 -- of an answer, by the rows that give it: where it is a refusal
 abbrev pub FitsUpTo : {A : Type 0} → ℕ → (Result A → Type 0) → Type 0
-FitsUpTo most Row = (number place : ℕ) → Row (refused number place) → (1 ≤ number) × (number ≤ 14) × (place ≤ most)
+FitsUpTo most Row = (number place : ℕ) → Row (refused number place) → (1 ≤ number) × (number ≤ 18) × (place ≤ most)
 
 abbrev pub Fits : {A : Type 0} → (Result A → Type 0) → Type 0
 Fits Row = FitsUpTo fileBytes Row

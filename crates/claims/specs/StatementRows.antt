@@ -1,25 +1,31 @@
--- Document 01's rows for the statement call, which "judges only the bytes from the given offset on, as if a statement of any kind began there, and stops
--- after its `;`; 1, then 11 for an offset past the file's length, then 3, 5 and 4".
+-- The rows for the statement call, which "judges only the bytes from the given offset on, as if a statement of any kind began there, and stops
+-- after its `;`; 1, then 11 for an offset past the file's length, then 3, 5 and 4", "with 15 to 17 where 3 stood and 18 where 4 did" (P2).
 use Prim.Native.Nat.{ℕ, _≤_, _<_}
 use mathlib.Core.List.{List}
 use lib.ListN.{length}
 use Rattle.counts.specs.Limits.{fileBytes}
-use Rattle.counts.specs.Refusals.{fileTooLong, outOfRange, noToken, unexpected, notReal}
+use Rattle.counts.specs.Refusals.{fileTooLong, outOfRange, noToken, unexpected, notReal, openString, brokenString, misshapen, endOfFile}
 use Rattle.counts.specs.Result.{Result, refused, done}
 use Rattle.item.specs.Tokens.{lineAt}
 use Rattle.statement.specs.declared.Statement.{Statement}
 use Rattle.meaning.specs.Paper.{paperStatement}
 use Rattle.job.specs.Statement.{placed}
 use Rattle.job.specs.declared.StatementAt.{StatementAt}
-use Rattle.job_claims.specs.Rows.{One, OneThree, OneFourToken, OneFourEnd, OneFive}
+use Rattle.job_claims.specs.Rows.{One, OneThree, OneFifteen, OneSixteen, OneSeventeen, OneEighteen, OneFour, OneFive}
 
 pub data StatementRow (s : List ℕ) (at : ℕ) : Result StatementAt → Type 0 where
   one : fileBytes < length s → StatementRow s at (refused fileTooLong 0)
   eleven : length s ≤ fileBytes → length s < at → StatementRow s at (refused outOfRange 0)
   three : {p : ℕ} → length s ≤ fileBytes → at ≤ length s → OneThree (lineAt s at .tokens) (lineAt s at .last) p → StatementRow s at (refused noToken p)
+  fifteen : {p : ℕ} → length s ≤ fileBytes → at ≤ length s → OneFifteen (lineAt s at .tokens) (lineAt s at .last) p
+      → StatementRow s at (refused openString p)
+  sixteen : {p : ℕ} → length s ≤ fileBytes → at ≤ length s → OneSixteen (lineAt s at .tokens) (lineAt s at .last) p
+      → StatementRow s at (refused brokenString p)
+  seventeen : {p : ℕ} → length s ≤ fileBytes → at ≤ length s → OneSeventeen (lineAt s at .tokens) (lineAt s at .last) p
+      → StatementRow s at (refused misshapen p)
   five : {p : ℕ} → length s ≤ fileBytes → at ≤ length s → OneFive (lineAt s at .tokens) p → StatementRow s at (refused notReal p)
-  four-token : {p : ℕ} → length s ≤ fileBytes → at ≤ length s → OneFourToken (lineAt s at .tokens) p → StatementRow s at (refused unexpected p)
-  four-end : {p : ℕ} → length s ≤ fileBytes → at ≤ length s → OneFourEnd (lineAt s at .tokens) (lineAt s at .last) p
-      → StatementRow s at (refused unexpected p)
+  four : {p : ℕ} → length s ≤ fileBytes → at ≤ length s → OneFour (lineAt s at .tokens) p → StatementRow s at (refused unexpected p)
+  eighteen : {p : ℕ} → length s ≤ fileBytes → at ≤ length s → OneEighteen (lineAt s at .tokens) (lineAt s at .last) p
+      → StatementRow s at (refused endOfFile p)
   -- the statement that the tokens from the offset on read as, its own offset, and the place after its `;`
   is-read : {x : Statement} {o e : ℕ} → length s ≤ fileBytes → at ≤ length s → One s at (paperStatement x) o e → StatementRow s at (done (placed x o e))

@@ -1,4 +1,4 @@
--- The refusal numbers of document 01 by name, each under its row.
+-- The refusal numbers of documents 01 and 02 by name, each under its row.
 use Prim.Native.Nat.{ℕ}
 use Rattle.counts.specs.declared.Refusal.{Refusal}
 
@@ -10,11 +10,11 @@ fileTooLong = 1
 abbrev pub tooFewPlaces : ℕ
 tooFewPlaces = 2
 
--- "the next bytes are no token; place: first of them (a string: its opening quote)"
+-- "the next bytes are no token; place: first of them (a string: its opening quote)"; P2: "3 stays for a byte that starts no token"
 abbrev pub noToken : ℕ
 noToken = 3
 
--- "a token, or the end of file, that no legal file has after the tokens before it, the byte limit put aside"
+-- "a token [..] that no legal file has after the tokens before it, the byte limit put aside"; P2: "4 stays for a token"
 abbrev pub unexpected : ℕ
 unexpected = 4
 
@@ -58,6 +58,22 @@ unsound = 13
 abbrev pub nothingUnanswered : ℕ
 nothingUnanswered = 14
 
--- "A refusal returns its number, the place for 3 to 6 in a file (else 0)"
+-- P2: "a string that meets the end of file first"
+abbrev pub openString : ℕ
+openString = 15
+
+-- P2: "a string that first meets a forbidden byte or its 256th content byte"
+abbrev pub brokenString : ℕ
+brokenString = 16
+
+-- P2: "an overlong word or misshapen numeric run"
+abbrev pub misshapen : ℕ
+misshapen = 17
+
+-- P2: "18 is the end of file"
+abbrev pub endOfFile : ℕ
+endOfFile = 18
+
+-- "A refusal returns its number, the place for 3 to 6 in a file (else 0)"; P2: "15 to 17 where 3 stood and 18 where 4 did"
 abbrev pub refusal : ℕ → ℕ → Refusal
 refusal number place = record { number = number; place = place }

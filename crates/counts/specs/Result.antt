@@ -8,7 +8,7 @@ pub data Result (A : Type 0) : Type 0 where
   refused : (number place : ℕ) → Result A
   done : A → Result A
 
--- "A refusal returns its number, the place for 3 to 6 in a file (else 0)"
+-- "A refusal returns its number, the place for 3 to 6 in a file (else 0)"; P2: "15 to 17 where 3 stood and 18 where 4 did"
 abbrev pub refusedAs : {A : Type 0} → Refusal → Result A
 refusedAs r = refused (r .number) (r .place)
 

@@ -1,4 +1,4 @@
-// The three counts, the limits and the refusal numbers of document 01. Each limit and each number is said once here, and once in specs/.
+// The three counts, the limits and the refusal numbers of documents 01 and 02. Each limit and each number is said once here, and once in specs/.
 ghost use mathlib.Core.Path.{_≡_};
 ghost use Rattle.counts.specs.Refusals.{refusal};
 
@@ -9,7 +9,7 @@ pub struct CommandNumber(pub u32);
 
 pub struct Ticket(pub u32);
 
-// A refusal: its number, and the place for 3 to 6 in a file and for 7 in a report, else 0.
+// A refusal: its number, and the place for 3 to 6 and 15 to 18 in a job file and for 7 in a report, else 0.
 pub struct Refusal {
     pub number: u32,
     pub place: usize,
@@ -58,10 +58,10 @@ pub const FILE_TOO_LONG: u32 = 1;
 // legal job file with more statements than the lent offset table has places
 pub const TOO_FEW_PLACES: u32 = 2;
 
-// the next bytes are no token; place: first of them (a string: its opening quote)
+// a byte that starts no token, a lone !, / or - too
 pub const NO_TOKEN: u32 = 3;
 
-// a token, or the end of file, that no legal file has after the tokens before it, the byte limit put aside
+// a token that no legal file has after the tokens before it, the byte limit put aside
 pub const UNEXPECTED: u32 = 4;
 
 // right shape of time or date where one may stand, but not a real one; or a time or date number not real
@@ -93,3 +93,15 @@ pub const UNSOUND: u32 = 13;
 
 // take up: no unanswered command
 pub const NOTHING_UNANSWERED: u32 = 14;
+
+// a string that meets the end of the file first
+pub const OPEN_STRING: u32 = 15;
+
+// a string that first meets a forbidden byte or its 256th content byte
+pub const BROKEN_STRING: u32 = 16;
+
+// an overlong word or misshapen numeric run
+pub const MISSHAPEN: u32 = 17;
+
+// the end of the file, that no legal file has after the tokens before it
+pub const END_OF_FILE: u32 = 18;

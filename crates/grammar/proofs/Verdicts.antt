@@ -9,19 +9,21 @@ use borrow.Author.Tests.{le-ltb}
 use lib.Dec.{ltb}
 use lib.ListN.{length}
 use Rattle.counts.specs.Limits.{statements}
-use Rattle.counts.specs.Refusals.{noToken, unexpected, notReal, tooManyStatements}
+use Rattle.counts.specs.Refusals.{unexpected, notReal, tooManyStatements}
+use Rattle.token.specs.declared.Why.{Why}
+use Rattle.token.specs.declared.Why.the-variants.{Stray, OpenString, BrokenString, Misshapen}
 use Rattle.grammar.specs.Grammar.{Point, isClass, isPoint}
 use Rattle.grammar.specs.Grammar.Class.{date, unrealDate, time, unrealTime}
 use Rattle.grammar.specs.Grammar.Point.{done}
 use Rattle.grammar.specs.Statement.{Statement}
-use Rattle.grammar.specs.Productions.{Placed, File, Legal}
+use Rattle.grammar.specs.Productions.{Placed, File, Legal, Begins}
 use Rattle.grammar.specs.Productions.File.{file}
-use Rattle.grammar.specs.Reading.{State, Last, OffsetsRead, move, moves, atEnd, close, read}
+use Rattle.grammar.specs.Reading.{State, Last, OffsetsRead, noTokenNumber, endNumber, move, moves, atEnd, close, read}
 use Rattle.grammar.specs.Reading.Last.{end, noTokenAt}
 use Rattle.counts.specs.Result.Result.{refused, done as taken}
 use Rattle.grammar.specs.Reading.State.{on, refusedAt}
-use Rattle.grammar.specs.Rows.{real, Full, MayStand, Stands, Three, FourToken, FourEnd, Five, Six, Whole, Says}
-use Rattle.grammar.specs.Rows.Says.{file as legal, three, four-token, four-end, five, six}
+use Rattle.grammar.specs.Rows.{real, Full, MayStand, Stands, Eighteen, Four, Five, Six, Whole, Says}
+use Rattle.grammar.specs.Rows.Says.{file as legal, three, fifteen, sixteen, seventeen, four, eighteen, five, six}
 use Rattle.grammar.proofs.Apart.{is-class, is-point}
 use Rattle.grammar.proofs.Moves.{Moved, moved, moves-append, moves-refused}
 use Rattle.grammar.proofs.Moves.Moved.{full, unreal, never}
@@ -72,7 +74,7 @@ module _ (a : List Placed) (t : Placed) (b : List Placed) (z : Last) (q : Point)
   row-of n p (full d l) w = six (a, t, here, is-full a t q os e d l)
   row-of n p (unreal r rs m) w = five (a, t, here, stands a (real t) q os e r rs m, stands-not a t q os e notReal (t .place) w)
   row-of n p (never m) w =
-      four-token (
+      four (
         a,
         t,
         here,
@@ -108,14 +110,21 @@ not-open ts q rs e d os l =
 
 -- the end of the file
 ended : (ts : List Placed) (p : ℕ) (q : Point) (o : ℕ) (os : List ℕ) → moves start ts ≡ on q (o ∷ os) → (b : Bool) → isPoint q done ≡ b
-    → Says ts (end p) (cond b (taken (o ∷ os)) (refused unexpected p))
+    → Says ts (end p) (cond b (taken (o ∷ os)) (refused endNumber p))
 ended ts p q o os e true d = legal (p, refl, read-legal ts o os (e ∙ ap (λ (r : Point). on r (o ∷ os)) (is-point q done d)))
-ended ts p q o os e false d = four-end (on-begins ts q (o ∷ os) e, refl, not-open ts q (o ∷ os) e d)
+ended ts p q o os e false d = eighteen (on-begins ts q (o ∷ os) e, refl, not-open ts q (o ∷ os) e d)
+
+-- no token: the row that its reason has
+none-row : (why : Why) (p : ℕ) {ts : List Placed} → Begins ts → Says ts (noTokenAt why p) (refused (noTokenNumber why) p)
+none-row Stray p b = three (b, refl)
+none-row OpenString p b = fifteen (b, refl)
+none-row BrokenString p b = sixteen (b, refl)
+none-row Misshapen p b = seventeen (b, refl)
 
 -- the tokens ts after the tokens a
 says : (ts : List Placed) (z : Last) (a : List Placed) (q : Point) (os : List ℕ) → moves start a ≡ on q os → Says (a ++ ts) z (close (moves (on q os) ts) z)
-says [] (noTokenAt why p) a q os e = rw (append-nil a) (three (on-begins a q os e, (why, refl)))
-says [] (end p) a q [] e = rw (append-nil a) (four-end (on-begins a q [] e, refl, not-empty a q e))
+says [] (noTokenAt why p) a q os e = rw (append-nil a) (none-row why p (on-begins a q os e))
+says [] (end p) a q [] e = rw (append-nil a) (eighteen (on-begins a q [] e, refl, not-empty a q e))
 says [] (end p) a q (o ∷ os) e = rw (append-nil a) (ended a p q o os e (isPoint q done) refl)
 says (t ∷ ts) z a q os e = go (λ r ps d. says ts z (a ++ (t ∷ [])) r ps d) (move (on q os) t) (moved q os t) refl
   where
@@ -135,11 +144,11 @@ taken-read ts os p l =
     ap (λ (s : State). close s (end p)) (file-read (l .file) (l .few)) ∙ rw (h .2)
 
 open-read : (ts : List Placed) (p : ℕ) (q : Point) (os : List ℕ) → moves start ts ≡ on q os → ((rs : List ℕ) → ¬ Legal ts rs)
-    → atEnd q os p ≡ refused unexpected p
+    → atEnd q os p ≡ refused endNumber p
 open-read ts p q [] e none = refl
 open-read ts p q (o ∷ os) e none = go (isPoint q done) refl
   where
-    go : (b : Bool) → isPoint q done ≡ b → cond b (taken (o ∷ os)) (refused unexpected p) ≡ refused unexpected p
+    go : (b : Bool) → isPoint q done ≡ b → cond b (taken (o ∷ os)) (refused endNumber p) ≡ refused endNumber p
     go true d = absurd (none (o ∷ os) (read-legal ts o os (e ∙ ap (λ (r : Point). on r (o ∷ os)) (is-point q done d))))
     go false d = refl
 
@@ -149,15 +158,15 @@ module _ (ts : List Placed) (z : Last) (p : ℕ) where
   unfolding read
   file-is os w = rw (w .1) (taken-read ts os (w .0) (w .2))
 
-  three-is : Three ts z p → read ts z ≡ refused noToken p
+  none-is : (why : Why) → Begins ts × z ≡ noTokenAt why p → read ts z ≡ refused (noTokenNumber why) p
   unfolding read
-  three-is r =
+  none-is why r =
       let s : (q : Point) × (os : List ℕ) × moves start ts ≡ on q os = begins-on ts (r .0) in
-      rw (r .1 .1, s .2)
+      rw (r .1, s .2)
 
-  four-end-is : FourEnd ts z p → read ts z ≡ refused unexpected p
+  eighteen-is : Eighteen ts z p → read ts z ≡ refused endNumber p
   unfolding read
-  four-end-is r =
+  eighteen-is r =
       let s : (q : Point) × (os : List ℕ) × moves start ts ≡ on q os = begins-on ts (r .0) in
       rw (r .1, s .2) (open-read ts p (s .0) (s .1) (s .2) (r .2))
 
@@ -166,8 +175,8 @@ module _ (ts : List Placed) (z : Last) (p : ℕ) where
       → move (on q os) t ≡ refusedAt n (t .place) → read ts z ≡ refused n p
   refused-is a t h q os e n w = rw (h .parts, ← h .place) (refused-read a t (h .after) z q os e n (t .place) w)
 
-  four-token-is : FourToken ts p → read ts z ≡ refused unexpected p
-  four-token-is (a, t, h, before, not, nor, few) =
+  four-is : Four ts p → read ts z ≡ refused unexpected p
+  four-is (a, t, h, before, not, nor, few) =
       let s : (q : Point) × (os : List ℕ) × moves start a ≡ on q os = begins-on a before in
       refused-is a t h (s .0) (s .1) (s .2) unexpected
       (token-refused a t (s .0) (s .1) (s .2) not nor few (move (on (s .0) (s .1)) t) (moved (s .0) (s .1) t) refl)
@@ -184,9 +193,12 @@ module _ (ts : List Placed) (z : Last) (p : ℕ) where
 
 pub says-reader : {ts : List Placed} {z : Last} {v : OffsetsRead} → Says ts z v → read ts z ≡ v
 says-reader {ts} {z} (legal {os = os} w) = file-is ts z 0 os w
-says-reader {ts} {z} (three {p = p} r) = three-is ts z p r
-says-reader {ts} {z} (four-token {p = p} r) = four-token-is ts z p r
-says-reader {ts} {z} (four-end {p = p} r) = four-end-is ts z p r
+says-reader {ts} {z} (three {p = p} r) = none-is ts z p Stray r
+says-reader {ts} {z} (fifteen {p = p} r) = none-is ts z p OpenString r
+says-reader {ts} {z} (sixteen {p = p} r) = none-is ts z p BrokenString r
+says-reader {ts} {z} (seventeen {p = p} r) = none-is ts z p Misshapen r
+says-reader {ts} {z} (four {p = p} r) = four-is ts z p r
+says-reader {ts} {z} (eighteen {p = p} r) = eighteen-is ts z p r
 says-reader {ts} {z} (five {p = p} r) = five-is ts z p r
 says-reader {ts} {z} (six {p = p} r) = six-is ts z p r
 

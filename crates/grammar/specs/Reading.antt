@@ -7,8 +7,9 @@ use lib.ListN.{length}
 use Rattle.counts.specs.Limits.{statements}
 use Rattle.counts.specs.Result.{Result}
 use Rattle.counts.specs.Result.Result.{refused, done as taken}
-use Rattle.counts.specs.Refusals.{noToken, unexpected, notReal, tooManyStatements}
+use Rattle.counts.specs.Refusals.{noToken, unexpected, notReal, tooManyStatements, openString, brokenString, misshapen, endOfFile}
 use Rattle.token.specs.declared.Why.{Why}
+use Rattle.token.specs.declared.Why.the-variants.{Stray, OpenString, BrokenString, Misshapen}
 use Rattle.grammar.specs.Grammar.{Point, step, isPoint, shape}
 use Rattle.grammar.specs.Grammar.Point.{first, between, done, dead}
 use Rattle.grammar.specs.Productions.{Placed}
@@ -18,19 +19,21 @@ pub data Last : Type 0 where
   end : ℕ → Last
   noTokenAt : Why → ℕ → Last
 
--- "the next bytes are no token": the number that they are refused with, by why
-abbrev pub noTokenNumber : Why → ℕ
-noTokenNumber why = noToken
-
--- "the end of file, that no legal file has after the tokens before it": the number that it is refused with
-abbrev pub endNumber : ℕ
-endNumber = unexpected
-
 -- the offsets of the statements, or a refusal
 abbrev pub OffsetsRead : Type 0
 OffsetsRead = Result (List ℕ)
 
 -- ---- Need not be believed: the reading. `proofs/Verdicts` shows that it gives the verdict of `Rows`.
+
+-- the number that bytes which are no token are refused with, by why, and that of the end of the file
+abbrev pub noTokenNumber : Why → ℕ
+noTokenNumber Stray = noToken
+noTokenNumber OpenString = openString
+noTokenNumber BrokenString = brokenString
+noTokenNumber Misshapen = misshapen
+
+abbrev pub endNumber : ℕ
+endNumber = endOfFile
 
 -- after some tokens: the point, and the offsets of the statements begun; or a refusal
 pub data State : Type 0 where

@@ -1,12 +1,12 @@
--- What document 01 says of a file's tokens, a row for each refusal number. `ts` are the tokens, and `z` ends them.
+-- What documents 01 and 02 say of a file's tokens, a row for each refusal number. `ts` are the tokens, and `z` ends them.
 -- `Begins a`, some legal file begins with the tokens a, says that all is in order up to the token after them.
 use Prim.Native.Nat.{ℕ}
 use mathlib.Core.Path.{_≡_}
 use mathlib.Core.List.{List, [], _∷_, _++_}
 use lib.ListN.{length}
 use Rattle.counts.specs.Limits.{statements}
-use Rattle.counts.specs.Refusals.{noToken, unexpected, notReal, tooManyStatements}
-use Rattle.token.specs.declared.Why.{Why}
+use Rattle.counts.specs.Refusals.{noToken, unexpected, notReal, tooManyStatements, openString, brokenString, misshapen, endOfFile}
+use Rattle.token.specs.declared.Why.the-variants.{Stray, OpenString, BrokenString, Misshapen}
 use Rattle.grammar.specs.Grammar.{shape}
 use Rattle.grammar.specs.Productions.{Placed, Legal, Begins}
 use Rattle.grammar.specs.Reading.{Last, OffsetsRead}
@@ -31,9 +31,21 @@ pub record Stands (ts : List Placed) (p : ℕ) (a : List Placed) (t : Placed) : 
   pub parts : ts ≡ a ++ (t ∷ after)
   pub place : t .place ≡ p
 
--- 3: the next bytes are no token; place: first of them
+-- P2: "3 stays for a byte that starts no token, a lone `!`, `/` or `-` too."
 abbrev pub Three : List Placed → Last → ℕ → Type 0
-Three ts z p = Begins ts × ((why : Why) × z ≡ noTokenAt why p)
+Three ts z p = Begins ts × z ≡ noTokenAt Stray p
+
+-- P2: "15 is a string that meets the end of file first"; place: its opening quote
+abbrev pub Fifteen : List Placed → Last → ℕ → Type 0
+Fifteen ts z p = Begins ts × z ≡ noTokenAt OpenString p
+
+-- P2: "16 a string that first meets a forbidden byte or its 256th content byte"; place: its opening quote
+abbrev pub Sixteen : List Placed → Last → ℕ → Type 0
+Sixteen ts z p = Begins ts × z ≡ noTokenAt BrokenString p
+
+-- P2: "17 an overlong word or misshapen numeric run"; place: its first byte
+abbrev pub Seventeen : List Placed → Last → ℕ → Type 0
+Seventeen ts z p = Begins ts × z ≡ noTokenAt Misshapen p
 
 -- 6: any token after 64 statements
 abbrev pub Six : List Placed → ℕ → Type 0
@@ -44,12 +56,12 @@ abbrev pub Five : List Placed → ℕ → Type 0
 Five ts p = (a : List Placed) × (t : Placed) × Stands ts p a t × MayStand a (real t) × ¬ MayStand a t
 
 -- 4: a token that no legal file has after the tokens before it, where neither 6 nor 5 holds
-abbrev pub FourToken : List Placed → ℕ → Type 0
-FourToken ts p = (a : List Placed) × (t : Placed) × Stands ts p a t × Begins a × ¬ MayStand a t × ¬ MayStand a (real t) × ¬ Full a
+abbrev pub Four : List Placed → ℕ → Type 0
+Four ts p = (a : List Placed) × (t : Placed) × Stands ts p a t × Begins a × ¬ MayStand a t × ¬ MayStand a (real t) × ¬ Full a
 
--- 4: the end of file, that no legal file has after the tokens before it
-abbrev pub FourEnd : List Placed → Last → ℕ → Type 0
-FourEnd ts z p = Begins ts × z ≡ end p × ((os : List ℕ) → ¬ Legal ts os)
+-- P2: "18 is the end of file", that no legal file has after the tokens before it
+abbrev pub Eighteen : List Placed → Last → ℕ → Type 0
+Eighteen ts z p = Begins ts × z ≡ end p × ((os : List ℕ) → ¬ Legal ts os)
 
 -- a legal file, whose statements begin at os
 abbrev pub Whole : List Placed → Last → List ℕ → Type 0
@@ -59,7 +71,10 @@ Whole ts z os = (p : ℕ) × z ≡ end p × Legal ts os
 pub data Says (ts : List Placed) (z : Last) : OffsetsRead → Type 0 where
   file : {os : List ℕ} → Whole ts z os → Says ts z (taken os)
   three : {p : ℕ} → Three ts z p → Says ts z (refused noToken p)
-  four-token : {p : ℕ} → FourToken ts p → Says ts z (refused unexpected p)
-  four-end : {p : ℕ} → FourEnd ts z p → Says ts z (refused unexpected p)
+  fifteen : {p : ℕ} → Fifteen ts z p → Says ts z (refused openString p)
+  sixteen : {p : ℕ} → Sixteen ts z p → Says ts z (refused brokenString p)
+  seventeen : {p : ℕ} → Seventeen ts z p → Says ts z (refused misshapen p)
+  four : {p : ℕ} → Four ts p → Says ts z (refused unexpected p)
+  eighteen : {p : ℕ} → Eighteen ts z p → Says ts z (refused endOfFile p)
   five : {p : ℕ} → Five ts p → Says ts z (refused notReal p)
   six : {p : ℕ} → Six ts p → Says ts z (refused tooManyStatements p)

@@ -8,4 +8,5 @@ pub mod Shows
 pub mod Tells
 pub mod NumeralTokens
 pub mod NumberTokens
+pub mod NoTokens
 pub mod Moments

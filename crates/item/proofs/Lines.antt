@@ -12,6 +12,7 @@ use Rattle.scan.specs.Run.{blank, blankEnd}
 use Rattle.token.specs.Token.{tokenAt, nextToken}
 use Rattle.token.specs.declared.Why.{Why}
 use Rattle.token.specs.declared.Token.{Token}
+use Rattle.token.specs.declared.Token.the-variants.{NoToken}
 use Rattle.token.proofs.Ahead as token
 use Rattle.token.proofs.Ahead.{Span, Ahead}
 use Rattle.token.proofs.Ahead.Ahead.{the-end, no-token as nothing-there, a-word, a-number, a-time, a-text, a-sign, a-semicolon}
@@ -34,7 +35,7 @@ end-of (noTokenNext why p) = p
 ended≢item : {p : ℕ} {t : Placed} → ended p ≡ item t → ⊥
 ended≢item e = let z : _≡_ {A = ℕ} 0 1 = cc in omega arith
 
-no-token≢item : {why : Why} {p : ℕ} {t : Placed} → noTokenNext why p ≡ item t → ⊥
+pub no-token≢item : {why : Why} {p : ℕ} {t : Placed} → noTokenNext why p ≡ item t → ⊥
 no-token≢item e = let z : _≡_ {A = ℕ} 0 1 = cc in omega arith
 
 item-end : {i a : ℕ} {c : Class} {x : Said} {u : Placed} (s : List ℕ) → at c i a x ≡ item u → Span s i a → (u .place ≡ i) × Span s i (u .end)
@@ -71,6 +72,18 @@ ahead-ended s i k (a-time l) p e = absurd (item≢ended e)
 ahead-ended s i k (a-text l) p e = absurd (item≢ended e)
 ahead-ended s i k (a-sign l) p e = absurd (item≢ended e)
 ahead-ended s i k (a-semicolon l) p e = absurd (item≢ended e)
+
+-- where no token stands
+pub ahead-none : (s : List ℕ) (i : ℕ) (k : Token) → Ahead s i k → (why : Why) (p : ℕ) → itemOf s k ≡ noTokenNext why p → (p ≡ i) × (k ≡ NoToken why p)
+unfolding itemOf
+ahead-none s i k (the-end l) why p e = absurd (no-token≢ended (sym e))
+ahead-none s i k (nothing-there {w = w} l) why p e = let a : i ≡ p = cc in let b : w ≡ why = cc in (sym a, rw (a, b))
+ahead-none s i k (a-word l) why p e = absurd (no-token≢item (sym e))
+ahead-none s i k (a-number l n) why p e = absurd (no-token≢item (sym e))
+ahead-none s i k (a-time l) why p e = absurd (no-token≢item (sym e))
+ahead-none s i k (a-text l) why p e = absurd (no-token≢item (sym e))
+ahead-none s i k (a-sign l) why p e = absurd (no-token≢item (sym e))
+ahead-none s i k (a-semicolon l) why p e = absurd (no-token≢item (sym e))
 
 pub ahead : (s : List ℕ) (i : ℕ) (t : Placed) → nextItem s i ≡ item t → (t .place ≡ blankEnd false s i) × Span s i (t .end)
 unfolding nextItem nextToken blankEnd

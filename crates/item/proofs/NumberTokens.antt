@@ -19,7 +19,7 @@ use Rattle.number.specs.Number.{unsigned, Numeral, numberOf}
 use Rattle.number.proofs.Numerals.{numeral-small}
 use Rattle.scan.specs.Kinds.{isDigit, isNumericByte}
 use Rattle.scan.specs.Run.{run, runEnd, blankEnd}
-use Rattle.scan.proofs.Runs.{run-passes, run-some}
+use Rattle.scan.proofs.Runs.{run-passes, run-ends, run-some}
 use Rattle.token.specs.Token.{isNumberAt, tokenAt, nextToken}
 use Rattle.token.specs.declared.Token.the-variants.{Number}
 use Rattle.token.proofs.Ahead.{Span, Figures, figures, in-range}
@@ -147,15 +147,6 @@ module _ (s : List ℕ) where
       ⊎-elim (λ p. (false, rw p at n)) (λ p. (true, signed-number a b (p .1) more room (rw (p .0) at n))) sign
 
 -- the byte after a run is none of its kind
-run-ends : (p : ℕ → Bool) → p 0 ≡ false → (xs : List ℕ) → p (getD xs (run p xs) 0) ≡ false
-unfolding run
-run-ends p z [] = z
-run-ends p z (x ∷ xs) = go (p x) refl (run-ends p z xs)
-  where
-    go : (t : Bool) → p x ≡ t → p (getD xs (run p xs) 0) ≡ false → p (getD (x ∷ xs) (elim t [ true ↦ suc (run p xs) | false ↦ 0 ]) 0) ≡ false
-    go true e h = h
-    go false e h = e
-
 end-stops : (p : ℕ → Bool) → p 0 ≡ false → (s : List ℕ) (i : ℕ) → p (getD s (runEnd p s i) 0) ≡ false
 unfolding runEnd
 end-stops p z s i = rw (← getD-drop i s (run p (drop i s)) 0) (run-ends p z (drop i s))

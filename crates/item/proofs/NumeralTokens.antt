@@ -183,11 +183,11 @@ no-letter b h =
 pub no-minus : (b : ℕ) → isDigit b ≡ true → eqb b 45 ≡ false
 no-minus b h = ne-eqb b 45 (λ e. omega (arith, digit-range b h))
 
-by-digit : (s : List ℕ) (i : ℕ) → i < length s → isDigit (getD s i 0) ≡ true → tokenAt s i ≡ shapedAt s i i
+pub by-digit : (s : List ℕ) (i : ℕ) → i < length s → isDigit (getD s i 0) ≡ true → tokenAt s i ≡ shapedAt s i i
 unfolding tokenAt numericAt
 by-digit s i l h = rw (lt-ltb _ _ l, no-letter (getD s i 0) h, h, no-minus (getD s i 0) h)
 
-by-minus : (s : List ℕ) (i : ℕ) → i < length s → getD s i 0 ≡ 45 → isDigit (getD s (i + 1) 0) ≡ true → tokenAt s i ≡ shapedAt s i (i + 1)
+pub by-minus : (s : List ℕ) (i : ℕ) → i < length s → getD s i 0 ≡ 45 → isDigit (getD s (i + 1) 0) ≡ true → tokenAt s i ≡ shapedAt s i (i + 1)
 unfolding tokenAt numericAt
 by-minus s i l q h = rw (lt-ltb _ _ l, q, h)
 

@@ -2,3 +2,4 @@ pub mod Tokens
 pub mod Items
 pub mod Files
 pub mod Numbers
+pub mod NoToken

@@ -1,7 +1,11 @@
 // The next token of a job file with its class: what the grammar sees of it, as a struct of numbers.
 use calendar::is_real_date;
 use calendar::is_real_time;
+use counts::BROKEN_STRING;
+use counts::END_OF_FILE;
+use counts::MISSHAPEN;
 use counts::NO_TOKEN;
+use counts::OPEN_STRING;
 use counts::UNEXPECTED;
 use decimal::DigitsRead;
 use decimal::digits_at;
@@ -77,13 +81,13 @@ pub const SEMICOLON: u8 = 21;
 pub const END: u8 = 22;
 
 // no token, by why it is none
-pub const STRAY: u8 = 23;
+pub const STRAY_CLASS: u8 = 23;
 
-pub const OPEN_STRING: u8 = 24;
+pub const OPEN_STRING_CLASS: u8 = 24;
 
-pub const BROKEN_STRING: u8 = 25;
+pub const BROKEN_STRING_CLASS: u8 = 25;
 
-pub const MISSHAPEN: u8 = 26;
+pub const MISSHAPEN_CLASS: u8 = 26;
 
 // A token by its class: its first byte and the place after it, counted from the file's start; a date's or a time's number; what a number reads
 // as; and which operator it is.
@@ -124,10 +128,10 @@ fn no_token_class(why: Why) -> u8
     ensures { λ r. ⌜ r ≡ noTokenNo why ⌝ }
 {
     match why {
-        Why::Stray => STRAY,
-        Why::OpenString => OPEN_STRING,
-        Why::BrokenString => BROKEN_STRING,
-        Why::Misshapen => MISSHAPEN,
+        Why::Stray => STRAY_CLASS,
+        Why::OpenString => OPEN_STRING_CLASS,
+        Why::BrokenString => BROKEN_STRING_CLASS,
+        Why::Misshapen => MISSHAPEN_CLASS,
     }
 }
 
@@ -136,11 +140,11 @@ pub fn refusal_number(class: u8) -> u32
     ensures { λ r. ⌜ r ≡ refusalNo class ⌝ }
 {
     match class {
-        END => UNEXPECTED,
-        STRAY => NO_TOKEN,
-        OPEN_STRING => NO_TOKEN,
-        BROKEN_STRING => NO_TOKEN,
-        MISSHAPEN => NO_TOKEN,
+        END => END_OF_FILE,
+        STRAY_CLASS => NO_TOKEN,
+        OPEN_STRING_CLASS => OPEN_STRING,
+        BROKEN_STRING_CLASS => BROKEN_STRING,
+        MISSHAPEN_CLASS => MISSHAPEN,
         _ => UNEXPECTED,
     }
 }

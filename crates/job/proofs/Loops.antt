@@ -10,10 +10,10 @@ use lib.ListN.{length, take, set}
 use lib.Seq.{length-take-le, take-suc-set}
 use borrow.Author.Tests.{ltb-true, ltb-false, lt-ltb, ne-eqb}
 use Rattle.counts.specs.Limits.{statements}
-use Rattle.counts.specs.Refusals.{unexpected, tooManyStatements}
+use Rattle.counts.specs.Refusals.{tooManyStatements}
 use Rattle.counts.specs.Result.Result.{refused, done}
 use Rattle.counts.specs.declared.Refusal.{Refusal}
-use Rattle.grammar.specs.Reading.{OffsetsRead}
+use Rattle.grammar.specs.Reading.{endNumber, OffsetsRead}
 use Rattle.item.specs.Tokens.{Next, nextItem}
 use Rattle.item.specs.Items.{endNo, refusalNo, itemAt}
 use Rattle.item.specs.declared.Item.{Item}
@@ -44,7 +44,7 @@ ended-stops : (s : List ℕ) (k : ℕ) (t : Item) (n : ℕ) → t .class ≡ end
 unfolding stepOf
 ended-stops s k t n c e = go (eqb k 0) (rw c at e)
   where
-    go : (a : Bool) → cond a (refuse unexpected t) Over ≡ On n → ⊥
+    go : (a : Bool) → cond a (refuse endNumber t) Over ≡ On n → ⊥
     go true x = refused≢on x
     go false x = over≢on x
 

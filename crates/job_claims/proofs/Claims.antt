@@ -1,23 +1,23 @@
--- Demand 2 for job files: `readJob`, which the contract of `job::read_job` cites, gives an answer exactly when document 01 says so.
---
+-- Demand 2 for job files: `readJob`, which the contract of `job::read_job` cites, gives an answer exactly when documents 01 and 02 say so.
 use Prim.Native.Nat.{ℕ, _≤_, _<_}
 use mathlib.Core.Path.{_≡_, refl, subst}
 use mathlib.Core.Bool.{Bool, true, false, cond}
 use mathlib.Core.List.{List}
-use mathlib.Core.Logic.{_↔_, _⊎_, inl, inr}
+use mathlib.Core.Logic.{_↔_}
 use native.Mathlib.Omega.{arith}
 use borrow.Author.Tests.{leb-true, leb-false, le-leb, lt-leb}
 use lib.Dec.{leb}
 use lib.ListN.{length}
 use Rattle.counts.specs.Limits.{fileBytes}
-use Rattle.counts.specs.Refusals.{fileTooLong, tooFewPlaces, noToken, unexpected, notReal, tooManyStatements}
+use Rattle.counts.specs.Refusals.{fileTooLong, tooFewPlaces, noToken, unexpected, notReal, tooManyStatements, openString, brokenString, misshapen, endOfFile}
 use Rattle.counts.specs.Result.Result.{refused, done}
 use Rattle.grammar.specs.Statement.{Statement}
 use Rattle.grammar.specs.Productions.{File}
 use Rattle.grammar.specs.Reading.{OffsetsRead, read}
-use Rattle.grammar.specs.Reading.Last.{end}
-use Rattle.grammar.specs.Rows.{Three, FourToken, FourEnd, Five, Six, Says}
-use Rattle.grammar.specs.Rows.Says.{file, three, four-token, four-end, five, six}
+use Rattle.grammar.specs.Reading.Last.{end, noTokenAt}
+use Rattle.token.specs.declared.Why.{Why}
+use Rattle.grammar.specs.Rows.{Three, Fifteen, Sixteen, Seventeen, Four, Eighteen, Five, Six, Says}
+use Rattle.grammar.specs.Rows.Says.{file, three, fifteen, sixteen, seventeen, four, eighteen, five, six}
 use Rattle.grammar.proofs.Verdicts.{reader-says, says-reader}
 use Rattle.item.specs.Tokens.{Tokens, line}
 use Rattle.job.specs.Job.{onRoom, readJob}
@@ -80,24 +80,42 @@ module _ (s : List ℕ) (room : ℕ) where
       from : (p : ℕ) → Verdict s room (refused tooFewPlaces p) → ((os : List ℕ) × Crowded s room os) × p ≡ 0
       from p (no-room {os = os} l (file w) r) = ((os, record { short = l; whole = w; crowded = r }), refl)
 
-  -- 3 to 6 at p exactly when 01's row holds there, all before it is in order, and no number that goes first holds there
+  -- 3 to 6 and 15 to 18 at p exactly when the row holds there, all before it is in order, and no number that goes first holds there
   pub three-exactly : (p : ℕ) → readJob s room ≡ refused noToken p ↔ (length s ≤ fileBytes) × Three (line s .tokens) (line s .last) p
   three-exactly p = (λ e. from (given e), λ h. only (refused noToken p) (broken (h .0) (three (h .1))))
     where
       from : Verdict s room (refused noToken p) → (length s ≤ fileBytes) × Three (line s .tokens) (line s .last) p
       from (broken l (three r)) = (l, r)
 
-  pub four-exactly : (p : ℕ) → readJob s room ≡ refused unexpected p ↔ (length s ≤ fileBytes)
-      × (FourToken (line s .tokens) p ⊎ FourEnd (line s .tokens) (line s .last) p)
-  four-exactly p = (λ e. from (given e), λ h. only (refused unexpected p) (broken (h .0) (to (h .1))))
+  pub fifteen-exactly : (p : ℕ) → readJob s room ≡ refused openString p ↔ (length s ≤ fileBytes) × Fifteen (line s .tokens) (line s .last) p
+  fifteen-exactly p = (λ e. from (given e), λ h. only (refused openString p) (broken (h .0) (fifteen (h .1))))
     where
-      from : Verdict s room (refused unexpected p) → (length s ≤ fileBytes) × (FourToken (line s .tokens) p ⊎ FourEnd (line s .tokens) (line s .last) p)
-      from (broken l (four-token r)) = (l, inl r)
-      from (broken l (four-end r)) = (l, inr r)
+      from : Verdict s room (refused openString p) → (length s ≤ fileBytes) × Fifteen (line s .tokens) (line s .last) p
+      from (broken l (fifteen r)) = (l, r)
 
-      to : FourToken (line s .tokens) p ⊎ FourEnd (line s .tokens) (line s .last) p → Says (line s .tokens) (line s .last) (refused unexpected p)
-      to (inl r) = four-token r
-      to (inr r) = four-end r
+  pub sixteen-exactly : (p : ℕ) → readJob s room ≡ refused brokenString p ↔ (length s ≤ fileBytes) × Sixteen (line s .tokens) (line s .last) p
+  sixteen-exactly p = (λ e. from (given e), λ h. only (refused brokenString p) (broken (h .0) (sixteen (h .1))))
+    where
+      from : Verdict s room (refused brokenString p) → (length s ≤ fileBytes) × Sixteen (line s .tokens) (line s .last) p
+      from (broken l (sixteen r)) = (l, r)
+
+  pub seventeen-exactly : (p : ℕ) → readJob s room ≡ refused misshapen p ↔ (length s ≤ fileBytes) × Seventeen (line s .tokens) (line s .last) p
+  seventeen-exactly p = (λ e. from (given e), λ h. only (refused misshapen p) (broken (h .0) (seventeen (h .1))))
+    where
+      from : Verdict s room (refused misshapen p) → (length s ≤ fileBytes) × Seventeen (line s .tokens) (line s .last) p
+      from (broken l (seventeen r)) = (l, r)
+
+  pub four-exactly : (p : ℕ) → readJob s room ≡ refused unexpected p ↔ (length s ≤ fileBytes) × Four (line s .tokens) p
+  four-exactly p = (λ e. from (given e), λ h. only (refused unexpected p) (broken (h .0) (four (h .1))))
+    where
+      from : Verdict s room (refused unexpected p) → (length s ≤ fileBytes) × Four (line s .tokens) p
+      from (broken l (four r)) = (l, r)
+
+  pub eighteen-exactly : (p : ℕ) → readJob s room ≡ refused endOfFile p ↔ (length s ≤ fileBytes) × Eighteen (line s .tokens) (line s .last) p
+  eighteen-exactly p = (λ e. from (given e), λ h. only (refused endOfFile p) (broken (h .0) (eighteen (h .1))))
+    where
+      from : Verdict s room (refused endOfFile p) → (length s ≤ fileBytes) × Eighteen (line s .tokens) (line s .last) p
+      from (broken l (eighteen r)) = (l, r)
 
   pub five-exactly : (p : ℕ) → readJob s room ≡ refused notReal p ↔ (length s ≤ fileBytes) × Five (line s .tokens) p
   five-exactly p = (λ e. from (given e), λ h. only (refused notReal p) (broken (h .0) (five (h .1))))
@@ -133,18 +151,24 @@ module _ (s : List ℕ) (room : ℕ) where
   one-reading os e xs ys f g = one-tiling (statements-exactly os e xs .0 f) (statements-exactly os e ys .0 g)
 
   -- The place of a refusal for the end of the file is the file's length.
-  pub end-is-last : (p : ℕ) → FourEnd (line s .tokens) (line s .last) p → p ≡ length s
+  pub end-is-last : (p : ℕ) → Eighteen (line s .tokens) (line s .last) p → p ≡ length s
   end-is-last p r = end-is-length s p (r .1)
 
-  -- A refusal's number is from 1 to 14 and its place within the file: both fit the one number that a C program gets.
-  pub refusal-fits : {n p : ℕ} → readJob s room ≡ refused n p → (1 ≤ n) × (n ≤ 14) × (p ≤ fileBytes)
+  -- A refusal's number is from 1 to 18 and its place within the file: both fit the one number that a C program gets.
+  pub refusal-fits : {n p : ℕ} → readJob s room ≡ refused n p → (1 ≤ n) × (n ≤ 18) × (p ≤ fileBytes)
   refusal-fits e = fits-in (given e)
     where
-      fits-in : {n p : ℕ} → Verdict s room (refused n p) → (1 ≤ n) × (n ≤ 14) × (p ≤ fileBytes)
+      none-fits : {n p : ℕ} {why : Why} → length s ≤ fileBytes → 1 ≤ n → n ≤ 18 → line s .last ≡ noTokenAt why p → (1 ≤ n) × (n ≤ 18) × (p ≤ fileBytes)
+      none-fits l a b z = (a, b, omega (arith, no-token-within (line-tokens s) (omega arith) z))
+
+      fits-in : {n p : ℕ} → Verdict s room (refused n p) → (1 ≤ n) × (n ≤ 18) × (p ≤ fileBytes)
       fits-in (too-long l) = (omega arith, omega arith, omega arith)
-      fits-in (broken l (three r)) = (omega arith, omega arith, omega (arith, no-token-within (line-tokens s) (omega arith) (r .1 .1)))
-      fits-in (broken l (four-token r)) = (omega arith, omega arith, omega (arith, token-within (line-tokens s) (r .2)))
-      fits-in (broken l (four-end r)) = (omega arith, omega arith, omega (arith, end-within (line-tokens s) (omega arith) (r .1)))
+      fits-in (broken l (three r)) = none-fits l (omega arith) (omega arith) (r .1)
+      fits-in (broken l (fifteen r)) = none-fits l (omega arith) (omega arith) (r .1)
+      fits-in (broken l (sixteen r)) = none-fits l (omega arith) (omega arith) (r .1)
+      fits-in (broken l (seventeen r)) = none-fits l (omega arith) (omega arith) (r .1)
+      fits-in (broken l (four r)) = (omega arith, omega arith, omega (arith, token-within (line-tokens s) (r .2)))
+      fits-in (broken l (eighteen r)) = (omega arith, omega arith, omega (arith, end-within (line-tokens s) (omega arith) (r .1)))
       fits-in (broken l (five r)) = (omega arith, omega arith, omega (arith, token-within (line-tokens s) (r .2)))
       fits-in (broken l (six r)) = (omega arith, omega arith, omega (arith, token-within (line-tokens s) (r .2)))
       fits-in (no-room l y r) = (omega arith, omega arith, omega arith)

@@ -3,4 +3,5 @@ pub mod Tiles
 pub mod One
 pub mod Claims
 pub mod Statements
+pub mod Hands
 pub mod Determined

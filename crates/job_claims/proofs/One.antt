@@ -4,13 +4,13 @@ use mathlib.Core.Path.{_≡_, refl, sym, _∙_, ap, subst}
 use mathlib.Core.Bool.{Bool, true, false, true≢false, cond}
 use mathlib.Core.List.{List, [], _∷_, _++_, append-assoc, append-nil}
 use native.Mathlib.Omega.{arith}
-use Rattle.counts.specs.Refusals.{noToken, unexpected, notReal, refusal}
+use Rattle.counts.specs.Refusals.{noToken, unexpected, notReal, openString, brokenString, misshapen, endOfFile, refusal}
 use Rattle.counts.specs.Result.{Result}
 use Rattle.counts.specs.Result.Result.{refused, done as whole}
 use Rattle.grammar.specs.Grammar.{Point, step, walk, isPoint, shape}
 use Rattle.grammar.specs.Grammar.Point.{statement, done, dead}
 use Rattle.grammar.specs.Productions.{Placed, classes}
-use Rattle.grammar.specs.Reading.{Last}
+use Rattle.grammar.specs.Reading.{Last, noTokenNumber, endNumber}
 use Rattle.grammar.specs.Reading.Last.{end, noTokenAt}
 use Rattle.grammar.specs.Rows.{real, Stands}
 use Rattle.grammar.proofs.Apart.{is-point}
@@ -18,6 +18,7 @@ use Rattle.grammar.proofs.Points.{classes-append, walk-append, stays, refuted, 
 use Rattle.grammar.proofs.Ways.{finish, finishes}
 use Rattle.grammar.proofs.Viable.{placed, its-classes}
 use Rattle.token.specs.declared.Why.{Why}
+use Rattle.token.specs.declared.Why.the-variants.{Stray, OpenString, BrokenString, Misshapen}
 use Rattle.item.specs.Tokens.{nextItem, Tokens, After}
 use Rattle.item.specs.Tokens.Next.{item, ended, noTokenNext}
 use Rattle.item.specs.Items.{itemAt}
@@ -28,7 +29,7 @@ use Rattle.statement.specs.Statement.{Held, readFrom}
 use Rattle.statement.proofs.Along.{is-whole, after, on-token, on-end, on-no-token}
 use Rattle.statement.proofs.Bridge.{Holds, by-tokens}
 use Rattle.item.specs.Tokens.After.{here, then}
-use Rattle.job_claims.specs.Rows.{WholeOne, Opens, OneThree, OneFourEnd, OneFourToken, OneFive}
+use Rattle.job_claims.specs.Rows.{WholeOne, Opens, OneThree, OneFifteen, OneSixteen, OneSeventeen, OneEighteen, OneFour, OneFive}
 
 -- where the tokens a lead
 abbrev point : List Placed → Point
@@ -77,8 +78,11 @@ endOf (Refused r) = refused (r .number) (r .place)
 pub data Judged (s : List ℕ) (at : ℕ) (ts : List Placed) (z : Last) : Result ℕ → Type 0 where
   read : {e : ℕ} → WholeAt s at e → Judged s at ts z (whole e)
   three : {p : ℕ} → OneThree ts z p → Judged s at ts z (refused noToken p)
-  four-end : {p : ℕ} → OneFourEnd ts z p → Judged s at ts z (refused unexpected p)
-  four-token : {p : ℕ} → OneFourToken ts p → Judged s at ts z (refused unexpected p)
+  fifteen : {p : ℕ} → OneFifteen ts z p → Judged s at ts z (refused openString p)
+  sixteen : {p : ℕ} → OneSixteen ts z p → Judged s at ts z (refused brokenString p)
+  seventeen : {p : ℕ} → OneSeventeen ts z p → Judged s at ts z (refused misshapen p)
+  eighteen : {p : ℕ} → OneEighteen ts z p → Judged s at ts z (refused endOfFile p)
+  four : {p : ℕ} → OneFour ts p → Judged s at ts z (refused unexpected p)
   five : {p : ℕ} → OneFive ts p → Judged s at ts z (refused notReal p)
 
 dead-after : (a : List Placed) (t : Placed) → ¬ Opens (a ++ (t ∷ [])) → isPoint (step (point a) (t .class)) dead ≡ true
@@ -127,7 +131,7 @@ module _ (s : List ℕ) where
       record { place = c .place; first = then (x ∙ ap item g) (c .first); then-rest = c .then-rest }
 
   -- what stands next, where it is known how the tokens go on
-  next-token : {i : ℕ} {t : Placed} {ts : List Placed} {z : Last} → Tokens s i (t ∷ ts) z → nextItem s i ≡ item t
+  pub next-token : {i : ℕ} {t : Placed} {ts : List Placed} {z : Last} → Tokens s i (t ∷ ts) z → nextItem s i ≡ item t
   next-token (and-then x r) = x
 
   pub next-end : {i p : ℕ} → Tokens s i [] (end p) → nextItem s i ≡ ended p
@@ -148,13 +152,13 @@ module _ (s : List ℕ) where
         let k = so-far f (ap (λ (q : Point). isPoint q dead) (any-walks (w .1))) in
         k .1 ∙ ends-whole (point a) (k .0) e (any-walks (w .1))
 
-    no-token-is : (p : ℕ) → OneThree ts z p → ends statement tt at ≡ refused noToken p
-    no-token-is p (o, n, (why, e)) =
+    no-token-is : (why : Why) (p : ℕ) → Opens ts × ¬ WholeOne ts × z ≡ noTokenAt why p → ends statement tt at ≡ refused (noTokenNumber why) p
+    no-token-is why p (o, n, e) =
         let c : Cut at ts [] (noTokenAt why p) = cut ts (subst (Tokens s at ts) e d) (sym (append-nil ts)) in
         let k = so-far (c .first) (alive ts o) in
         k .1 ∙ ap endOf (on-no-token s (point ts) (k .0) (still-open ts n) (c .place) why p (next-no-token (c .then-rest)))
 
-    end-is : (p : ℕ) → OneFourEnd ts z p → ends statement tt at ≡ refused unexpected p
+    end-is : (p : ℕ) → OneEighteen ts z p → ends statement tt at ≡ refused endNumber p
     end-is p (o, n, e) =
         let c : Cut at ts [] (end p) = cut ts (subst (Tokens s at ts) e d) (sym (append-nil ts)) in
         let k = so-far (c .first) (alive ts o) in
@@ -169,7 +173,7 @@ module _ (s : List ℕ) where
         let k = so-far (c .first) l in
         k .1 ∙ ap endOf (on-token s (point a) (k .0) n (c .place) t (next-token (c .then-rest))) ∙ rw (e, f, h .place)
 
-    four-is : (p : ℕ) → OneFourToken ts p → ends statement tt at ≡ refused unexpected p
+    four-is : (p : ℕ) → OneFour ts p → ends statement tt at ≡ refused unexpected p
     four-is p (a, t, h, o, n, bad, nor) = at-token a t p h (alive a o) (still-open a n) (dead-after a t bad) true (dead-after a (real t) nor)
 
     five-is : (p : ℕ) → OneFive ts p → ends statement tt at ≡ refused notReal p
@@ -181,9 +185,12 @@ module _ (s : List ℕ) where
 
     pub says-one : (x : Result ℕ) → Judged s at ts z x → endOf (readFrom 0 s statement tt at) ≡ x
     says-one x (read {e = e} o) = whole-is e o
-    says-one x (three {p = p} r) = no-token-is p r
-    says-one x (four-end {p = p} r) = end-is p r
-    says-one x (four-token {p = p} r) = four-is p r
+    says-one x (three {p = p} r) = no-token-is Stray p r
+    says-one x (fifteen {p = p} r) = no-token-is OpenString p r
+    says-one x (sixteen {p = p} r) = no-token-is BrokenString p r
+    says-one x (seventeen {p = p} r) = no-token-is Misshapen p r
+    says-one x (eighteen {p = p} r) = end-is p r
+    says-one x (four {p = p} r) = four-is p r
     says-one x (five {p = p} r) = five-is p r
 
   -- every reading has its row
@@ -204,7 +211,7 @@ module _ (s : List ℕ) where
         with-real e = ap (λ (r : Point). isPoint r dead) (point-append a (real t)) ∙ e
 
         go : (y : Bool) → isPoint (step (point a) (shape (t .class))) dead ≡ y → Judged s at (a ++ (t ∷ us)) z (refused (cond y unexpected notReal) (t .place))
-        go true e = four-token (a, t, here-stands, opens a l, not-whole a n, not-so, not-opens (a ++ (real t ∷ [])) (with-real e))
+        go true e = four (a, t, here-stands, opens a l, not-whole a n, not-so, not-opens (a ++ (real t ∷ [])) (with-real e))
         go false e = five (a, t, here-stands, opens (a ++ (real t ∷ [])) (with-real e), not-so)
 
     -- of the tokens ts after the tokens a, which lead to q
@@ -214,12 +221,19 @@ module _ (s : List ℕ) where
     still : {q : Point} (a : List Placed) → point a ≡ q → isPoint q done ≡ false → isPoint (point a) done ≡ false
     still a e o = ap (λ (p : Point). isPoint p done) e ∙ o
 
+    -- no token: the row that its reason has
+    none-row : (why : Why) (p : ℕ) {a : List Placed} → Opens a → ¬ WholeOne a → Judged s at a (noTokenAt why p) (refused (noTokenNumber why) p)
+    none-row Stray p o n = three (o, n, refl)
+    none-row OpenString p o n = fifteen (o, n, refl)
+    none-row BrokenString p o n = sixteen (o, n, refl)
+    none-row Misshapen p o n = seventeen (o, n, refl)
+
     rows : Holds s Row
     rows =
         record {
           whole = λ i ts z d x a e f l. read (a, f, walked-any a e);
-          over = λ q o i p a e f l. rw (append-nil a) (four-end (opens a l, not-whole a (still a e o), refl));
-          lost = λ q o i why p a e f l. rw (append-nil a) (three (opens a l, not-whole a (still a e o), (why, refl)));
+          over = λ q o i p a e f l. rw (append-nil a) (eighteen (opens a l, not-whole a (still a e o), refl));
+          lost = λ q o i why p a e f l. rw (append-nil a) (none-row why p (opens a l) (not-whole a (still a e o)));
           barred = λ q o i t us z d y g a e f l. barred a t us z l (still a e o) (rw e d) y (rw e g);
           along = λ q o i t us z n d v r a e f l.
               let m : point (a ++ (t ∷ [])) ≡ step q (t .class) = point-append a t ∙ ap (λ (p : Point). step p (t .class)) e in

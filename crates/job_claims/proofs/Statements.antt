@@ -1,16 +1,16 @@
--- Demand 2 for one statement: `readStatement`, which the contract of `job::read_statement` cites, gives an answer exactly when document 01
--- says so. `ts` are the file's tokens from the offset on, and `z` ends them.
+-- Demand 2 for one statement: `readStatement`, which the contract of `job::read_statement` cites, gives an answer exactly when documents 01
+-- and 02 say so. `ts` are the file's tokens from the offset on, and `z` ends them.
 use Prim.Native.Nat.{ℕ, _≤_, _<_}
 use mathlib.Core.Path.{_≡_, refl, sym, _∙_, ap, subst, subst₂}
 use mathlib.Core.Bool.{Bool, true, false, true≢false, cond}
 use mathlib.Core.List.{List, [], _∷_}
-use mathlib.Core.Logic.{_↔_, _⊎_, inl, inr}
+use mathlib.Core.Logic.{_↔_}
 use native.Mathlib.Omega.{arith}
 use borrow.Author.Tests.{leb-true, leb-false, le-leb, lt-leb}
 use lib.Dec.{leb}
 use lib.ListN.{length, drop}
 use Rattle.counts.specs.Limits.{fileBytes}
-use Rattle.counts.specs.Refusals.{fileTooLong, outOfRange, noToken, unexpected, notReal}
+use Rattle.counts.specs.Refusals.{fileTooLong, outOfRange, noToken, unexpected, notReal, openString, brokenString, misshapen, endOfFile}
 use Rattle.counts.specs.Result.{Result}
 use Rattle.counts.specs.Result.Result.{refused, done}
 use Rattle.grammar.specs.Grammar.{Point, isPoint}
@@ -18,6 +18,8 @@ use Rattle.grammar.specs.Grammar.Point.{statement, done as done-point}
 use Rattle.grammar.specs.Statement as read
 use Rattle.grammar.specs.Productions.{Placed}
 use Rattle.grammar.specs.Reading.{Last}
+use Rattle.grammar.specs.Reading.Last.{noTokenAt}
+use Rattle.token.specs.declared.Why.{Why}
 use Rattle.grammar.proofs.Points.{any-walks}
 use Rattle.item.specs.Tokens.{lineAt}
 use Rattle.item.proofs.Lines.{tokens-at}
@@ -32,11 +34,11 @@ use Rattle.meaning.proofs.Lossless.{one-statement}
 use Rattle.meaning.specs.Paper.{paperStatement}
 use Rattle.job.specs.Statement.{placed, onRead, statementIn, readStatement}
 use Rattle.job.specs.declared.StatementAt.{StatementAt}
-use Rattle.job_claims.specs.Rows.{WholeOne, One, OneThree, OneFourEnd, OneFourToken, OneFive}
+use Rattle.job_claims.specs.Rows.{WholeOne, One, OneThree, OneFifteen, OneSixteen, OneSeventeen, OneEighteen, OneFour, OneFive}
 use Rattle.job_claims.proofs.Places.{no-token-within, end-within, token-within}
 use Rattle.job_claims.proofs.Tiles.{same-read, ReadsOne, reads-one}
 use Rattle.job_claims.proofs.One.{endOf, Judged, says-one, one-says}
-use Rattle.job_claims.proofs.One.Judged.{read, three, four-end, four-token, five}
+use Rattle.job_claims.proofs.One.Judged.{read, three, fifteen, sixteen, seventeen, eighteen, four, five}
 
 -- an answer without the statement's values: the place after its `;`, or the refusal
 abbrev ends : Result StatementAt → Result ℕ
@@ -62,7 +64,7 @@ module _ (s : List ℕ) (at : ℕ) where
   abbrev z : Last
   z = lineAt s at .last
 
-  data Verdict : Result ℕ → Type 0 where
+  pub data Verdict : Result ℕ → Type 0 where
     too-long : fileBytes < length s → Verdict (refused fileTooLong 0)
     past : length s ≤ fileBytes → length s < at → Verdict (refused outOfRange 0)
     not-read : {n p : ℕ} → length s ≤ fileBytes → at ≤ length s → Judged s at ts z (refused n p) → Verdict (refused n p)
@@ -96,7 +98,7 @@ module _ (s : List ℕ) (at : ℕ) where
   only v (not-read l m j) = rw (le-leb _ _ l, le-leb _ _ m) (in-part m ∙ says-one s at ts z (tokens-at s at) _ j)
   only v (is-read l m j) = rw (le-leb _ _ l, le-leb _ _ m) (in-part m ∙ says-one s at ts z (tokens-at s at) _ j)
 
-  asked : {n p : ℕ} → readStatement s at ≡ refused n p → Verdict (refused n p)
+  pub asked : {n p : ℕ} → readStatement s at ≡ refused n p → Verdict (refused n p)
   asked e = subst Verdict (ap ends e) given
 
   told : {n p : ℕ} → Verdict (refused n p) → readStatement s at ≡ refused n p
@@ -152,28 +154,55 @@ module _ (s : List ℕ) (at : ℕ) where
       from : Verdict (refused notReal p) → (length s ≤ fileBytes) × (at ≤ length s) × OneFive (lineAt s at .tokens) p
       from (not-read l m (five r)) = (l, m, r)
 
-  pub statement-four-exactly : (p : ℕ)
-      → readStatement s at ≡ refused unexpected p ↔ (length s ≤ fileBytes) × (at ≤ length s)
-      × (OneFourToken (lineAt s at .tokens) p ⊎ OneFourEnd (lineAt s at .tokens) (lineAt s at .last) p)
-  statement-four-exactly p = (λ e. from (asked e), λ h. told (not-read (h .0) (h .1) (to (h .2))))
+  pub statement-four-exactly : (p : ℕ) → readStatement s at ≡ refused unexpected p ↔ (length s ≤ fileBytes) × (at ≤ length s) × OneFour (lineAt s at .tokens) p
+  statement-four-exactly p = (λ e. from (asked e), λ h. told (not-read (h .0) (h .1) (four (h .2))))
     where
-      from : Verdict (refused unexpected p)
-          → (length s ≤ fileBytes) × (at ≤ length s) × (OneFourToken (lineAt s at .tokens) p ⊎ OneFourEnd (lineAt s at .tokens) (lineAt s at .last) p)
-      from (not-read l m (four-token r)) = (l, m, inl r)
-      from (not-read l m (four-end r)) = (l, m, inr r)
+      from : Verdict (refused unexpected p) → (length s ≤ fileBytes) × (at ≤ length s) × OneFour (lineAt s at .tokens) p
+      from (not-read l m (four r)) = (l, m, r)
 
-      to : OneFourToken (lineAt s at .tokens) p ⊎ OneFourEnd (lineAt s at .tokens) (lineAt s at .last) p → Judged s at ts z (refused unexpected p)
-      to (inl r) = four-token r
-      to (inr r) = four-end r
+  pub statement-fifteen-exactly : (p : ℕ)
+      → readStatement s at ≡ refused openString p ↔ (length s ≤ fileBytes) × (at ≤ length s) × OneFifteen (lineAt s at .tokens) (lineAt s at .last) p
+  statement-fifteen-exactly p = (λ e. from (asked e), λ h. told (not-read (h .0) (h .1) (fifteen (h .2))))
+    where
+      from : Verdict (refused openString p) → (length s ≤ fileBytes) × (at ≤ length s) × OneFifteen (lineAt s at .tokens) (lineAt s at .last) p
+      from (not-read l m (fifteen r)) = (l, m, r)
 
-  -- A refusal's number is from 1 to 14 and its place within the file.
-  pub statement-refusal-fits : {n p : ℕ} → readStatement s at ≡ refused n p → (1 ≤ n) × (n ≤ 14) × (p ≤ fileBytes)
+  pub statement-sixteen-exactly : (p : ℕ)
+      → readStatement s at ≡ refused brokenString p ↔ (length s ≤ fileBytes) × (at ≤ length s) × OneSixteen (lineAt s at .tokens) (lineAt s at .last) p
+  statement-sixteen-exactly p = (λ e. from (asked e), λ h. told (not-read (h .0) (h .1) (sixteen (h .2))))
+    where
+      from : Verdict (refused brokenString p) → (length s ≤ fileBytes) × (at ≤ length s) × OneSixteen (lineAt s at .tokens) (lineAt s at .last) p
+      from (not-read l m (sixteen r)) = (l, m, r)
+
+  pub statement-seventeen-exactly : (p : ℕ)
+      → readStatement s at ≡ refused misshapen p ↔ (length s ≤ fileBytes) × (at ≤ length s) × OneSeventeen (lineAt s at .tokens) (lineAt s at .last) p
+  statement-seventeen-exactly p = (λ e. from (asked e), λ h. told (not-read (h .0) (h .1) (seventeen (h .2))))
+    where
+      from : Verdict (refused misshapen p) → (length s ≤ fileBytes) × (at ≤ length s) × OneSeventeen (lineAt s at .tokens) (lineAt s at .last) p
+      from (not-read l m (seventeen r)) = (l, m, r)
+
+  pub statement-eighteen-exactly : (p : ℕ)
+      → readStatement s at ≡ refused endOfFile p ↔ (length s ≤ fileBytes) × (at ≤ length s) × OneEighteen (lineAt s at .tokens) (lineAt s at .last) p
+  statement-eighteen-exactly p = (λ e. from (asked e), λ h. told (not-read (h .0) (h .1) (eighteen (h .2))))
+    where
+      from : Verdict (refused endOfFile p) → (length s ≤ fileBytes) × (at ≤ length s) × OneEighteen (lineAt s at .tokens) (lineAt s at .last) p
+      from (not-read l m (eighteen r)) = (l, m, r)
+
+  -- A refusal's number is from 1 to 18 and its place within the file.
+  pub statement-refusal-fits : {n p : ℕ} → readStatement s at ≡ refused n p → (1 ≤ n) × (n ≤ 18) × (p ≤ fileBytes)
   statement-refusal-fits e = fits-in (asked e)
     where
-      fits-in : {n p : ℕ} → Verdict (refused n p) → (1 ≤ n) × (n ≤ 14) × (p ≤ fileBytes)
+      none-fits : {n p : ℕ} {why : Why} → length s ≤ fileBytes → at ≤ length s → 1 ≤ n → n ≤ 18 → lineAt s at .last ≡ noTokenAt why p
+          → (1 ≤ n) × (n ≤ 18) × (p ≤ fileBytes)
+      none-fits l m a b z = (a, b, omega (arith, no-token-within (tokens-at s at) m z))
+
+      fits-in : {n p : ℕ} → Verdict (refused n p) → (1 ≤ n) × (n ≤ 18) × (p ≤ fileBytes)
       fits-in (too-long l) = (omega arith, omega arith, omega arith)
       fits-in (past l m) = (omega arith, omega arith, omega arith)
-      fits-in (not-read l m (three r)) = (omega arith, omega arith, omega (arith, no-token-within (tokens-at s at) m (r .2 .1)))
-      fits-in (not-read l m (four-end r)) = (omega arith, omega arith, omega (arith, end-within (tokens-at s at) m (r .2)))
-      fits-in (not-read l m (four-token r)) = (omega arith, omega arith, omega (arith, token-within (tokens-at s at) (r .2)))
+      fits-in (not-read l m (three r)) = none-fits l m (omega arith) (omega arith) (r .2)
+      fits-in (not-read l m (fifteen r)) = none-fits l m (omega arith) (omega arith) (r .2)
+      fits-in (not-read l m (sixteen r)) = none-fits l m (omega arith) (omega arith) (r .2)
+      fits-in (not-read l m (seventeen r)) = none-fits l m (omega arith) (omega arith) (r .2)
+      fits-in (not-read l m (eighteen r)) = (omega arith, omega arith, omega (arith, end-within (tokens-at s at) m (r .2)))
+      fits-in (not-read l m (four r)) = (omega arith, omega arith, omega (arith, token-within (tokens-at s at) (r .2)))
       fits-in (not-read l m (five r)) = (omega arith, omega arith, omega (arith, token-within (tokens-at s at) (r .2)))

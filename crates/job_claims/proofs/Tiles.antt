@@ -38,7 +38,7 @@ use Rattle.job_claims.specs.Rows.{One}
 use Rattle.job_claims.proofs.One.{Cut, cut, next-end}
 
 -- a token is found again from its own place
-again : (s : List ℕ) (i : ℕ) (t : Placed) → nextItem s i ≡ item t → nextItem s (t .place) ≡ nextItem s i
+pub again : (s : List ℕ) (i : ℕ) (t : Placed) → nextItem s i ≡ item t → nextItem s (t .place) ≡ nextItem s i
 unfolding nextItem nextToken
 again s i t e = ap (λ (j : ℕ). itemOf s (tokenAt s j)) (ap (blankEnd false s) (ahead s i t e .0) ∙ settled s i)
 

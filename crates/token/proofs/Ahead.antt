@@ -50,13 +50,13 @@ pub data Ahead (s : List ℕ) (i : ℕ) : Token → Type 0 where
   a-semicolon : {b : ℕ} → Span s i b → Ahead s i (Semicolon i b)
 
 -- a choice, each way
-choice : (P : Token → Type 0) (b : Bool) {x y : Token} → (b ≡ true → P x) → (b ≡ false → P y) → P (cond b x y)
+pub choice : (P : Token → Type 0) (b : Bool) {x y : Token} → (b ≡ true → P x) → (b ≡ false → P y) → P (cond b x y)
 choice P true f g = f refl
 choice P false f g = g refl
 
-digit : (a b : Bool) → (a || b) ≡ true → b ≡ false → a ≡ true
-digit true b e f = refl
-digit false b e f = sym f ∙ e
+pub first-of : (a b : Bool) → (a || b) ≡ true → b ≡ false → a ≡ true
+first-of true b e f = refl
+first-of false b e f = sym f ∙ e
 
 -- a digit is a numeric byte, letter or not
 pub numeric-byte : (a u v w : Bool) → ((a || true || u) || v || w) ≡ true
@@ -112,7 +112,7 @@ module _ (s : List ℕ) (i : ℕ) where
       (λ m. choice (Ahead s i) (isDigit (getD s (i + 1) 0)) (λ d. shaped (i + 1) (inr (refl, eqb-true _ 45 m)) d l (omega arith)
       (omega (arith, from isNumericByte (i + 1)))) (λ d. no-token l))
       (λ m.
-      let d = digit (isDigit (getD s i 0)) (eqb (getD s i 0) 45) e m in
+      let d = first-of (isDigit (getD s i 0)) (eqb (getD s i 0) 45) e m in
       shaped i (inl refl) d l (omega arith) (run-some isNumericByte s i l
       (rw d (numeric-byte (isLetter (getD s i 0)) (eqb (getD s i 0) 95) (eqb (getD s i 0) 46) (eqb (getD s i 0) 58)))))
 

@@ -16,7 +16,7 @@ use Rattle.counts.specs.Limits.{textBytes}
 use Rattle.scan.specs.Kinds.{isDigit, isLetter, isTextByte}
 use Rattle.scan.specs.Run.{run, runEnd}
 use Rattle.scan.proofs.Runs.{run-fits, run-passes, run-whole}
-use Rattle.token.specs.Token.{WholeString, contentEnd, contentFits, isTextAt, contentAt, wordToken, stringAt, shapedAt, numericAt, signAt, tokenAt}
+use Rattle.token.specs.Token.{ContentByte, WholeString, contentEnd, contentFits, isTextAt, contentAt, wordToken, stringAt, shapedAt, numericAt, signAt, tokenAt}
 use Rattle.word.specs.declared.WordRead.{WordRead}
 use Rattle.word.specs.declared.WordRead.the-variants.{Is, NoWord}
 use Rattle.token.specs.declared.Token.{Token}
@@ -28,14 +28,14 @@ use Rattle.token.proofs.Ahead.{in-range, text-inside}
 from-to : (low high b : ℕ) → (leb low b && leb b high) ≡ true → (low ≤ b) × (b ≤ high)
 from-to low high b h = (leb-true low b (and-left _ _ h), leb-true b high (and-right (leb low b) (leb b high) h))
 
-text-byte : (b : ℕ) → isTextByte b ≡ true → (32 ≤ b) × (b ≤ 254) × (b ≡ 34 → ⊥)
+pub text-byte : (b : ℕ) → isTextByte b ≡ true → ContentByte b
 text-byte b = go (leb 32 b && leb b 33) refl
   where
-    go : (t : Bool) → (leb 32 b && leb b 33) ≡ t → (t || (leb 35 b && leb b 254)) ≡ true → (32 ≤ b) × (b ≤ 254) × (b ≡ 34 → ⊥)
+    go : (t : Bool) → (leb 32 b && leb b 33) ≡ t → (t || (leb 35 b && leb b 254)) ≡ true → ContentByte b
     go true e h = omega (arith, from-to 32 33 b e)
     go false e h = omega (arith, from-to 35 254 b h)
 
-byte-text : (b : ℕ) → (32 ≤ b) × (b ≤ 254) × (b ≡ 34 → ⊥) → isTextByte b ≡ true
+pub byte-text : (b : ℕ) → ContentByte b → isTextByte b ≡ true
 byte-text b h = go (leb b 33) refl
   where
     go : (t : Bool) → leb b 33 ≡ t → isTextByte b ≡ true

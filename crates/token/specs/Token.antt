@@ -22,13 +22,17 @@ abbrev pub wordToken : ℕ → WordRead → Token
 wordToken i (Is w e) = Word i e w
 wordToken i NoWord = NoToken Misshapen i
 
+-- what a string may hold: "bytes from 32 to 254 other than 34"
+abbrev pub ContentByte : ℕ → Type 0
+ContentByte b = (32 ≤ b) × (b ≤ 254) × (b ≡ 34 → ⊥)
+
 -- "String: byte 34, then 0 to 255 bytes from 32 to 254 other than 34, then byte 34.": so stand the bytes of s from i on, with c between the
 -- quotes
 pub record WholeString (s : List ℕ) (i : ℕ) (c : List ℕ) : Type 0 where
   pub after : List ℕ
   pub stands : drop i s ≡ 34 ∷ (c ++ (34 ∷ after))
   pub few : length c ≤ 255
-  pub each : (b : ℕ) → List·Memᴰ b c → (32 ≤ b) × (b ≤ 254) × (b ≡ 34 → ⊥)
+  pub each : (b : ℕ) → List·Memᴰ b c → ContentByte b
 
 -- ---- Need not be believed: whole strings as they are found. `whole-string` and `string-token` of the page of claims tie them to the sentence above.
 

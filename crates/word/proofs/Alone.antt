@@ -73,13 +73,13 @@ name-parts s i e h = go (hasAt s i (ascii "TIME>=")) (ltb (i + wordBytes) (runEn
         let end : runEnd isWordByte s i ≡ e = cc in
         record { end = end; few = omega (arith, ltb-false (i + wordBytes) (runEnd isWordByte s i) l); which = cc }
 
--- TIME>= goes on with > after its letters
-time-goes-on : (s : List ℕ) (i : ℕ) → hasAt s i (ascii "TIME>=") ≡ true → getD s (runEnd isWordByte s i) 0 ≡ 62
+-- TIME>= goes on with > after its four letters
+pub time-letters : (s : List ℕ) (i : ℕ) → hasAt s i (ascii "TIME>=") ≡ true → runEnd isWordByte s i ≡ i + 4
 unfolding runEnd run
-time-goes-on s i h =
-    let e = has-then s i (ascii "TIME>=") h in
-    let n : run isWordByte (drop i s) ≡ 4 = rw e in
-    rw n (sym (getD-drop i s 4 0) ∙ ap (λ (l : List ℕ). getD l 4 0) e)
+time-letters s i h = rw (has-then s i (ascii "TIME>=") h)
+
+time-goes-on : (s : List ℕ) (i : ℕ) → hasAt s i (ascii "TIME>=") ≡ true → getD s (runEnd isWordByte s i) 0 ≡ 62
+time-goes-on s i h = rw (time-letters s i h) (sym (getD-drop i s 4 0) ∙ ap (λ (l : List ℕ). getD l 4 0) (has-then s i (ascii "TIME>=") h))
 
 no-time : (s : List ℕ) (i : ℕ) → (getD s (runEnd isWordByte s i) 0 ≡ 62 → ⊥) → hasAt s i (ascii "TIME>=") ≡ false
 no-time s i n = go (hasAt s i (ascii "TIME>=")) refl
