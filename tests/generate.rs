@@ -122,7 +122,8 @@ fn any_token(r: &mut Random) -> Vec<u8> {
         }
         11 => {
             let n = r.from(254, 258);
-            [b"\"", &vec![b'q'; n][..], r.pick(&[b"\"" as &[u8], b"", b"\t", b"\n\"", b"\xff"])].concat()
+            let end: &[u8] = r.pick(&[b"\"" as &[u8], b"", b"\t", b"\n\"", b"\xff"]);
+            [b"\"", &vec![b'q'; n][..], end].concat()
         }
         12 => digits(r, 17),
         13 => r.pick(&[b"5." as &[u8], b"1.2.3", b"1e5", b"12:00", b"-12:00:00", b"--1", b".5", b"-", b"!", b"/", b"5x", b"1-1", b"2024.0430"]).to_vec(),
@@ -546,8 +547,11 @@ fn near(r: &mut Random, row: usize, command: usize, column: usize) -> u32 {
     }
 }
 
-/// Changes one number of the table to what may stand there or may not: mostly one that counts.
+/// Changes one number of the table to what may stand there or may not: mostly one that counts. Memory that is too short for a table stays.
 pub fn damage_table(r: &mut Random, bytes: &mut [u8]) {
+    if bytes.len() < table::TABLE_BYTES {
+        return;
+    }
     let standing: Vec<usize> = (0..table::SESSIONS).filter(|s| table::number(bytes, table::row_of(*s, 0), table::TAKEN) != 0).collect();
     let session = if standing.is_empty() || r.once_in(6) { r.below(table::SESSIONS) } else { r.pick(&standing) };
     let answered = table::number(bytes, table::row_of(session, 0), table::ANSWERED) as usize;
