@@ -126,7 +126,7 @@ module _ (s : List ℕ) (i : ℕ) where
         in-range (λ b. eqb b 34) (contentEnd s i) refl
             (and-right (eqb (getD s i 0) 34 && contentFits s i) (eqb (getD s (contentEnd s i) 0) 34) e),
       )))
-      (λ e. either (contentFits s i && leb (length s) (contentEnd s i)) (no-token l) (no-token l))
+      (λ e. search (either, no-token))
 
   one : i < length s → Span s i (i + 1)
   one l = omega arith
