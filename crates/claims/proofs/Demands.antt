@@ -33,7 +33,8 @@ use Rattle.job_claims.proofs.Hands.{job-tells, statement-tells, end-exactly, no
 use Rattle.meaning.proofs.Lossless.{one-statement}
 use Rattle.number.proofs.Numerals.{numeral-reads, minus-zero}
 use Rattle.item.proofs.NumberTokens.{number-token-exactly, number-is-small}
-use Rattle.item.proofs.NoTokens.{stray-exactly, open-string-exactly, broken-string-exactly, misshapen-exactly, end-after-255, end-after-256, forbidden-after-255}
+use Rattle.item.proofs.NoTokens.{stray-exactly, open-string-exactly, broken-string-exactly, misshapen-exactly}
+use Rattle.item.proofs.NoStrings.{end-after-255, end-after-256, forbidden-after-255}
 use Rattle.token.specs.Token.{WholeString, isTextAt, contentAt}
 use Rattle.token.proofs.Whole.{whole-string-exactly, string-token-exactly}
 use Rattle.report.specs.Report.{Told}

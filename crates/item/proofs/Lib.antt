@@ -8,5 +8,6 @@ pub mod Shows
 pub mod Tells
 pub mod NumeralTokens
 pub mod NumberTokens
+pub mod NoStrings
 pub mod NoTokens
 pub mod Moments

@@ -1,12 +1,11 @@
 -- The number of a refusal alone tells what stands at its place.
 use Prim.Native.Nat.{ℕ, _<_}
 use mathlib.Core.Path.{_≡_, refl, sym, _∙_, ap, subst}
-use mathlib.Core.Bool.{Bool, true, false}
+use mathlib.Core.Bool.{false}
 use mathlib.Core.List.{List}
-use mathlib.Core.Logic.{_↔_, _⊎_, inl, inr, ⊎-elim}
+use mathlib.Core.Logic.{_↔_, _⊎_, inl, inr}
 use native.Mathlib.Omega.{arith}
 use lib.ListN.{length}
-use Rattle.counts.specs.Limits.{fileBytes}
 use Rattle.counts.specs.Refusals.{fileTooLong, tooFewPlaces, outOfRange, endOfFile}
 use Rattle.counts.specs.Result.Result.{refused}
 use Rattle.scan.specs.Run.{blankEnd}
@@ -23,7 +22,7 @@ use Rattle.grammar.specs.Reading.{Last, OffsetsRead, noTokenNumber}
 use Rattle.grammar.specs.Reading.Last.{noTokenAt}
 use Rattle.grammar.specs.Rows as row
 use Rattle.grammar.specs.Rows.{Stands}
-use Rattle.item.specs.Tokens.{itemOf, nextItem, Tokens, lineAt}
+use Rattle.item.specs.Tokens.{itemOf, nextItem, Tokens}
 use Rattle.item.specs.Tokens.Next.{item}
 use Rattle.item.specs.NoToken.{StartsNoToken, StringMeetsEnd, StringBreaks, OverlongWord, MisshapenRun}
 use Rattle.item.proofs.Lines.{no-token≢item, ahead, tokens-at, line-tokens, inside}
@@ -37,7 +36,7 @@ use Rattle.job_claims.specs.Hands.{TokenBegins, Tells}
 use Rattle.job_claims.specs.Hands.Tells.{three, fifteen, sixteen, seventeen, eighteen, four, five, six}
 use Rattle.job_claims.proofs.Tiles.{again}
 use Rattle.job_claims.proofs.One as one
-use Rattle.job_claims.proofs.One.{Cut, cut, next-token}
+use Rattle.job_claims.proofs.One.{cut, next-token}
 use Rattle.job_claims.proofs.Claims.{judged}
 use Rattle.job_claims.proofs.Statements as statement
 
