@@ -10,7 +10,8 @@ use Rattle.scan.specs.Run.{runEnd}
 use Rattle.token.specs.Token.{ContentByte, isTimeAt}
 use Rattle.item.specs.Numbers.{NumberFrom}
 
--- "3 stays for a byte that starts no token, a lone `!`, `/` or `-` too.": no word, numeric run, string, operator or `;` starts with the byte at i
+-- "3 stays for a byte that starts no token, a lone `!`, `/` or `-` too.": no word, numeric run, string, operator or `;` starts with the byte at i. None
+-- starts with `/`, and two of them are a comment.
 pub record StartsNoToken (s : List ℕ) (i : ℕ) : Type 0 where
   pub inside : i < length s
   pub no-word : isLetter (getD s i 0) ≡ false
