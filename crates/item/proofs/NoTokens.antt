@@ -16,13 +16,13 @@ use Rattle.word.specs.Word.{whichWord, wordRead}
 use Rattle.word.specs.declared.WordRead.the-variants.{Is, NoWord}
 use Rattle.word.specs.declared.Word.the-variants.{TimeGe}
 use Rattle.word.proofs.Alone.{time-letters}
-use Rattle.token.specs.Token.{contentEnd, contentFits, isTextAt, isTimeAt, isNumberAt, wordToken, stringAt, shapedAt, numericAt, oneSign, signAt, tokenAt}
+use Rattle.token.specs.Token.{contentEnd, contentFits, isTextAt, isTimeAt, isNumberAt, NumericRun, wordToken, stringAt, shapedAt, numericAt, oneSign, signAt, tokenAt}
 use Rattle.token.specs.declared.Why.{Why}
 use Rattle.token.specs.declared.Why.the-variants.{Stray, OpenString, BrokenString, Misshapen}
 use Rattle.token.specs.declared.Token.{Token}
 use Rattle.token.specs.declared.Token.the-variants.{End, NoToken, Word, Number, Time, Text, Sign, Semicolon}
 use Rattle.token.proofs.Ahead.{choice, first-of, in-range}
-use Rattle.item.specs.NoToken.{StartsNoToken, StringMeetsEnd, StringBreaks, OverlongWord, NumericRun, MisshapenRun}
+use Rattle.item.specs.NoToken.{StartsNoToken, StringMeetsEnd, StringBreaks, OverlongWord, MisshapenRun}
 use Rattle.item.proofs.NumeralTokens.{by-digit, by-minus}
 use Rattle.item.proofs.NumberTokens.{number-token-exactly}
 use Rattle.item.proofs.NoStrings.{met-end, met-other, is-open, is-broken}

@@ -157,8 +157,9 @@ number-token-exactly s i a b = (λ e. to (figures s i a b e), λ h. rw (← h .0
   where
     to : (a ≡ i) × Span s a b × Figures s a b → (a ≡ i) × NumberFrom s a b
     to (here, span, f) =
-        let u = unsigned-number s (f .first) b (f .digit) (span .inside) (f .number) in
-        let n = some-sign s a b (f .first) (span .ahead) (span .inside) (f .sign) u in (
+        let r = f .run in
+        let u = unsigned-number s (r .first) b (r .digit) (span .inside) (f .number) in
+        let n = some-sign s a b (r .first) (span .ahead) (span .inside) (r .sign) u in (
           here,
           record {
             minus = n .0;
@@ -166,7 +167,7 @@ number-token-exactly s i a b = (λ e. to (figures s i a b e), λ h. rw (← h .0
             after = n .1 .after;
             numeral = n .1 .numeral;
             inside = span .inside;
-            longest = rw (f .longest) (end-stops isNumericByte refl s (f .first));
+            longest = rw (r .longest) (end-stops isNumericByte refl s (r .first));
           },
         )
 

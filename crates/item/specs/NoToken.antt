@@ -5,9 +5,9 @@ use mathlib.Core.Bool.{true, false}
 use mathlib.Core.List.{List, _∷_, _++_, List·Memᴰ}
 use mathlib.Core.Logic.{_⊎_}
 use lib.ListN.{length, getD, drop}
-use Rattle.scan.specs.Kinds.{isDigit, isLetter, isWordByte, isNumericByte}
+use Rattle.scan.specs.Kinds.{isDigit, isLetter, isWordByte}
 use Rattle.scan.specs.Run.{runEnd}
-use Rattle.token.specs.Token.{ContentByte, isTimeAt}
+use Rattle.token.specs.Token.{ContentByte, isTimeAt, NumericRun}
 use Rattle.item.specs.Numbers.{NumberFrom}
 
 -- "3 stays for a byte that starts no token, a lone `!`, `/` or `-` too.": no word, numeric run, string, operator or `;` starts with the byte at i. None
@@ -47,13 +47,6 @@ pub record StringBreaks (s : List ℕ) (i : ℕ) : Type 0 where
 pub record OverlongWord (s : List ℕ) (i : ℕ) : Type 0 where
   pub letter : isLetter (getD s i 0) ≡ true
   pub overlong : i + 255 < runEnd isWordByte s i
-
--- "Numeric run: an optional `-`, a digit, then digits, letters, `_`, `.` and `:`.": the longest from i on ends before e
-pub record NumericRun (s : List ℕ) (i e : ℕ) : Type 0 where
-  pub first : ℕ
-  pub sign : (first ≡ i) ⊎ ((first ≡ i + 1) × (getD s i 0 ≡ 45))
-  pub digit : isDigit (getD s first 0) ≡ true
-  pub longest : e ≡ runEnd isNumericByte s first
 
 -- "or misshapen numeric run": "It must have one of two shapes.", and it has neither
 pub record MisshapenRun (s : List ℕ) (i : ℕ) : Type 0 where

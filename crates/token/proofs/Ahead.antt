@@ -14,7 +14,7 @@ use Rattle.scan.specs.Kinds.{isDigit, isLetter, isNumericByte, isTextByte}
 use Rattle.scan.specs.Run.{runEnd, blankEnd}
 use Rattle.scan.proofs.Runs.{run-some, run-inside}
 use Rattle.scan.proofs.Settled.{Onward, onward}
-use Rattle.token.specs.Token.{contentEnd, contentFits, wordToken, stringAt, isTextAt, isTimeAt, isNumberAt, shapedAt, numericAt, signAt, tokenAt, nextToken, Short}
+use Rattle.token.specs.Token.{contentEnd, contentFits, wordToken, stringAt, isTextAt, isTimeAt, isNumberAt, NumericRun, shapedAt, numericAt, signAt, tokenAt, nextToken, Short}
 use Rattle.word.specs.Word.{wordRead}
 use Rattle.word.specs.declared.Word.{Word as ReservedOrName}
 use Rattle.word.specs.declared.WordRead.{WordRead}
@@ -30,13 +30,10 @@ pub record Span (s : List ℕ) (i b : ℕ) : Type 0 where
   pub ahead : i < b
   pub inside : b ≤ length s
 
--- a number from i to b, where its numeric run ends: its first digit stands at i, or after a `-` there
+-- a numeric run from i to b that is a number
 pub record Figures (s : List ℕ) (i b : ℕ) : Type 0 where
-  pub first : ℕ
-  pub sign : (first ≡ i) ⊎ ((first ≡ i + 1) × (getD s i 0 ≡ 45))
-  pub digit : isDigit (getD s first 0) ≡ true
-  pub number : isNumberAt s first b ≡ true
-  pub longest : b ≡ runEnd isNumericByte s first
+  pub run : NumericRun s i b
+  pub number : isNumberAt s (run .first) b ≡ true
 
 -- the token, if there is one, stands at i and ends after it, within the file
 pub data Ahead (s : List ℕ) (i : ℕ) : Token → Type 0 where
@@ -103,7 +100,7 @@ module _ (s : List ℕ) (i : ℕ) where
       let r : Span s i (runEnd isNumericByte s d) = omega (arith, run-inside isNumericByte s d m) in
       either (isTimeAt s i (runEnd isNumericByte s d)) (a-time r)
       (choice (Ahead s i) (isNumberAt s d (runEnd isNumericByte s d))
-      (λ h. a-number r (record { first = d; sign = n; digit = f; number = h; longest = refl })) (λ h. no-token k))
+      (λ h. a-number r (record { run = record { first = d; sign = n; digit = f; longest = refl }; number = h })) (λ h. no-token k))
 
   numeric : i < length s → (isDigit (getD s i 0) || eqb (getD s i 0) 45) ≡ true → Ahead s i (numericAt s i)
   unfolding numericAt
@@ -213,8 +210,8 @@ figures s i a b e = the-figures (rw e at (ahead s i))
 pub number-inside : (s : List ℕ) (i a b : ℕ) (r : Token) → r ≡ nextToken s i → r ≡ Number a b → Short s a b
 number-inside s i a b r d e =
     let h = the-figures (next-ahead s i r (Number a b) d e) in
-    let n = number-short s i (h .2 .first) b (h .2 .number) in
-    record { ahead = h .1 .ahead; inside = h .1 .inside; short = ⊎-elim (λ p. omega arith) (λ p. omega arith) (h .2 .sign) }
+    let n = number-short s i (h .2 .run .first) b (h .2 .number) in
+    record { ahead = h .1 .ahead; inside = h .1 .inside; short = ⊎-elim (λ p. omega arith) (λ p. omega arith) (h .2 .run .sign) }
 
 -- a string's opening quote stands within the file
 pub text-inside : (s : List ℕ) (i : ℕ) → isTextAt s i ≡ true → i < length s

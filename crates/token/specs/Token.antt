@@ -1,9 +1,10 @@
 -- The tokens of a job file (document 01, "Bytes and tokens"): each definition stands under its rule there. "A token is the longest run of
 -- its kind". Where no token stands, `NoToken` keeps why.
 use Prim.Native.Nat.{ℕ, _+_, _-_, _≤_, _<_}
-use mathlib.Core.Bool.{Bool, false, cond, _&&_, _||_}
+use mathlib.Core.Bool.{Bool, true, false, cond, _&&_, _||_}
 use mathlib.Core.Path.{_≡_}
 use mathlib.Core.List.{List, _∷_, _++_, List·Memᴰ}
+use mathlib.Core.Logic.{_⊎_}
 use lib.Dec.{eqb, leb, ltb}
 use lib.ListN.{length, getD, take, drop}
 use Rattle.counts.specs.Limits.{textBytes, numberDigits}
@@ -81,13 +82,20 @@ isNumberAt s d e =
 
 -- ---- numeric runs, signs, and which token stands where
 
+-- "Numeric run: an optional `-`, a digit, then digits, letters, `_`, `.` and `:`.": the longest from i on ends before e
+pub record NumericRun (s : List ℕ) (i e : ℕ) : Type 0 where
+  pub first : ℕ
+  pub sign : (first ≡ i) ⊎ ((first ≡ i + 1) × (getD s i 0 ≡ 45))
+  pub digit : isDigit (getD s first 0) ≡ true
+  pub longest : e ≡ runEnd isNumericByte s first
+
 -- "It must have one of two shapes.": a numeric run that starts at i and has its first digit at d
 unfoldable pub shapedAt : List ℕ → ℕ → ℕ → Token
 shapedAt s i d =
     cond (isTimeAt s i (runEnd isNumericByte s d)) (Time i (runEnd isNumericByte s d))
     (cond (isNumberAt s d (runEnd isNumericByte s d)) (Number i (runEnd isNumericByte s d)) (NoToken Misshapen i))
 
--- "Numeric run: an optional `-`, a digit, then digits, letters, `_`, `.` and `:`."
+-- what stands at a digit or at a `-`: a lone `-` is no run
 unfoldable pub numericAt : List ℕ → ℕ → Token
 numericAt s i = cond (eqb (getD s i 0) 45) (cond (isDigit (getD s (i + 1) 0)) (shapedAt s i (i + 1)) (NoToken Stray i)) (shapedAt s i i)
 
