@@ -248,7 +248,7 @@ enum call { READ, IS_DATE, WRITE, WRITE_NAME, READ_REPORT, WRITE_REPORT, PLACE, 
 
 static void ours(enum call call) {
     switch (call) {
-    case READ: left.returned = rb_read_job(file, file_bytes, left.offsets, 64, &left.count); break;
+    case READ: left.returned = rb_read_job(file, file_bytes, false, left.offsets, 64, &left.count); break;
     case IS_DATE: left.returned = rb_is_real_date(date); break;
     case WRITE:
         left.returned = rb_write_record((rb_command_number){record.number}, record.outcome, record.error_class, record.code, text, text_bytes,
@@ -266,7 +266,7 @@ static void ours(enum call call) {
 
 static void theirs(enum call call) {
     switch (call) {
-    case READ: left.returned = plain_read_job(file, file_bytes, left.offsets, 64, &left.count); break;
+    case READ: left.returned = plain_read_job(file, file_bytes, false, left.offsets, 64, &left.count); break;
     case IS_DATE: left.returned = plain_is_real_date(date); break;
     case WRITE:
         left.returned = plain_write_record(record.number, record.outcome, record.error_class, record.code, text, text_bytes, record.date,

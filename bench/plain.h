@@ -10,7 +10,7 @@
 
 bool plain_is_real_date(uint32_t date);
 bool plain_is_real_time(uint32_t time);
-uint32_t plain_read_job(const uint8_t *file, size_t n, uint32_t *offsets, size_t places, size_t *statements);
+uint32_t plain_read_job(const uint8_t *file, size_t n, bool clause_optional, uint32_t *offsets, size_t places, size_t *statements);
 uint32_t plain_write_record(uint32_t number, uint32_t outcome, uint32_t error_class, uint32_t code, const uint8_t *text, size_t text_bytes,
                             uint32_t date, uint32_t time, uint8_t *out, size_t room, size_t *written);
 uint32_t plain_write_file_name(uint32_t number, uint32_t kind, uint32_t max, uint8_t *out, size_t room, size_t *written);

@@ -102,7 +102,7 @@ static uint32_t moment_refusal(enum point at, enum class c, const uint8_t *token
     return 0;
 }
 
-uint32_t plain_read_job(const uint8_t *file, size_t n, uint32_t *offsets, size_t places, size_t *statements) {
+uint32_t plain_read_job(const uint8_t *file, size_t n, bool clause_optional, uint32_t *offsets, size_t places, size_t *statements) {
     uint32_t found[64];
     size_t count = 0;
     enum point at = P_FIRST;
@@ -118,6 +118,7 @@ uint32_t plain_read_job(const uint8_t *file, size_t n, uint32_t *offsets, size_t
             if (count < 64) found[count] = (uint32_t)(token - file);
         }
         uint8_t next = after[at][c];
+        if (at == P_MOVE_START && c == C_SEMICOLON && !clause_optional) next = 0;
         if (!next) return place + (c == C_END ? 18 : 4);
         uint32_t no = moment_refusal(at, c, token, cursor);
         if (no) return place + no;

@@ -105,7 +105,7 @@ static void place_request(uint32_t n) {
 static void show_statement(const uint8_t *file, size_t n, uint32_t offset) {
     static const char *const kinds[] = {"", "JOB", "UPLOAD", "DOWNLOAD", "GETINFO", "ABORT"};
     rb_statement s;
-    must(rb_read_statement(file, n, offset, &s), "statement");
+    must(rb_read_statement(file, n, false, offset, &s), "statement");
     printf("    %s", kinds[s.kind]);
     if (s.kind != RB_STATEMENT_ABORT)
         printf(" \"%.*s\"", (int)rb_text_length(file, n, s.file_quote), (const char *)file + s.file_quote + 1);
@@ -131,7 +131,7 @@ static rb_result run_job(const char *name) {
     bool was_read = !ferror(f);
     fclose(f);
     if (!was_read) return RB_REFUSAL_OUT_OF_RANGE;
-    rb_result no = rb_read_job(file, n, offsets, RB_MAX_STATEMENTS, &statements);
+    rb_result no = rb_read_job(file, n, false, offsets, RB_MAX_STATEMENTS, &statements);
     if (no != RB_DONE) return no;
     for (size_t i = 0; i < statements; i++) show_statement(file, n, offsets[i]);
     return RB_DONE;

@@ -22,7 +22,7 @@ extern "C" {
 
 /* ---- the version: one more with each change of a name, a type, a number or a size of this header */
 
-#define RB_VERSION 4u
+#define RB_VERSION 5u
 
 /* The version of the archive. */
 uint32_t rb_version(void);
@@ -115,10 +115,12 @@ typedef struct { uint32_t n; } rb_ticket;         /* from 1 on */
 /* ---- job files */
 
 /* Reads a whole job file, and puts the offset of each statement into offsets and their count into *statements. Places beyond stay.
+ * An UPLOAD or DOWNLOAD without a start clause is refused (RB_REFUSAL_UNEXPECTED at its ;), unless clause_optional is true: then it reads
+ * as START IMMEDIATE. Who has no reason to pass true passes false.
  * RB_REFUSAL_FILE_TOO_LONG; then the leftmost of RB_REFUSAL_NO_TOKEN, RB_REFUSAL_OPEN_STRING, RB_REFUSAL_BROKEN_STRING,
  * RB_REFUSAL_MISSHAPEN, RB_REFUSAL_TOO_MANY_STATEMENTS, RB_REFUSAL_NOT_REAL, RB_REFUSAL_UNEXPECTED, RB_REFUSAL_END_OF_FILE; then
  * RB_REFUSAL_TOO_FEW_PLACES. */
-rb_result rb_read_job(const uint8_t *file, size_t file_bytes, uint32_t *offsets, size_t places, size_t *statements);
+rb_result rb_read_job(const uint8_t *file, size_t file_bytes, bool clause_optional, uint32_t *offsets, size_t places, size_t *statements);
 
 #define RB_STATEMENT_JOB 1u
 #define RB_STATEMENT_UPLOAD 2u
@@ -176,17 +178,18 @@ typedef struct {
 /* The proved call behind rb_read_statement: the members as numbers in their order, a part as its place and its length, and the mantissa
  * by itself. */
 #define RB_STATEMENT_NUMBERS 20
-rb_result rb_read_statement_numbers(const uint8_t *file, size_t file_bytes, size_t at, uint64_t numbers[RB_STATEMENT_NUMBERS],
-                                    int64_t *mantissa);
+rb_result rb_read_statement_numbers(const uint8_t *file, size_t file_bytes, bool clause_optional, size_t at,
+                                    uint64_t numbers[RB_STATEMENT_NUMBERS], int64_t *mantissa);
 
-/* Reads the statement that begins at the offset at, up to its ; and nothing beyond.
+/* Reads the statement that begins at the offset at, up to its ; and nothing beyond; clause_optional as for rb_read_job.
  * RB_REFUSAL_FILE_TOO_LONG, RB_REFUSAL_OUT_OF_RANGE (an offset past the file's length); then the leftmost of RB_REFUSAL_NO_TOKEN,
  * RB_REFUSAL_OPEN_STRING, RB_REFUSAL_BROKEN_STRING, RB_REFUSAL_MISSHAPEN, RB_REFUSAL_NOT_REAL, RB_REFUSAL_UNEXPECTED,
  * RB_REFUSAL_END_OF_FILE. */
-static inline rb_result rb_read_statement(const uint8_t *file, size_t file_bytes, size_t at, rb_statement *statement) {
+static inline rb_result rb_read_statement(const uint8_t *file, size_t file_bytes, bool clause_optional, size_t at,
+                                          rb_statement *statement) {
     uint64_t numbers[RB_STATEMENT_NUMBERS];
     int64_t mantissa;
-    rb_result result = rb_read_statement_numbers(file, file_bytes, at, numbers, &mantissa);
+    rb_result result = rb_read_statement_numbers(file, file_bytes, clause_optional, at, numbers, &mantissa);
     if (result != RB_DONE) return result;
     statement->kind = (uint32_t)numbers[0];
     statement->offset = (size_t)numbers[1];

@@ -4,7 +4,7 @@ use crate::generate as make;
 use crate::library::{returned, Library, Message};
 use crate::random::Random;
 use crate::reference::calendar::{is_real_date, is_real_time};
-use crate::reference::job::{self, Body, Source, Span, Start, Statement, Value};
+use crate::reference::job::{self, Body, Missing, Source, Span, Start, Statement, Value, SETTINGS};
 use crate::reference::name::{read_name, write_name, Kind};
 use crate::reference::record::{read_record, write_record, Outcome, Record};
 use crate::reference::{plain, Refusal};
@@ -29,14 +29,27 @@ pub fn given<T, const N: usize>(answer: &Result<T, Refusal>, numbers: impl Fn(&T
     Message::default().number(returned(answer)).numbers(&values)
 }
 
-pub fn expect_job(l: &mut Library, file: &[u8], places: usize) {
-    let answer = job::read_job(file, places);
+/// P7's setting as C gives it: whether a start clause is optional.
+fn optional(missing: Missing) -> u64 {
+    (missing == Missing::Immediate) as u64
+}
+
+fn expect_job_with(l: &mut Library, file: &[u8], missing: Missing, places: usize) {
+    let answer = job::read_job(file, missing, places);
     let mut offsets = vec![u32::from_le_bytes([ROOM_BEFORE; 4]); places];
     if let Ok(taken) = &answer {
         offsets[..taken.len()].copy_from_slice(taken);
     }
     let bytes: Vec<u8> = offsets.iter().flat_map(|o| o.to_le_bytes()).collect();
-    l.expect(Message::call(b'J').lent(file).number(places as u64), given(&answer, |taken| [taken.len() as u64]).bytes(&bytes));
+    let request = Message::call(b'J').lent(file).numbers(&[optional(missing), places as u64]);
+    l.expect(request, given(&answer, |taken| [taken.len() as u64]).bytes(&bytes));
+}
+
+/// A file, with either setting.
+pub fn expect_job(l: &mut Library, file: &[u8], places: usize) {
+    for missing in SETTINGS {
+        expect_job_with(l, file, missing, places);
+    }
 }
 
 fn span(s: Span) -> [u64; 2] {
@@ -86,8 +99,11 @@ fn statement_numbers(s: &Statement) -> [u64; 21] {
 }
 
 pub fn expect_statement(l: &mut Library, file: &[u8], at: usize) {
-    let answer = job::read_statement(file, at);
-    l.expect(Message::call(b'S').lent(file).number(at as u64), given(&answer, statement_numbers).twice());
+    for missing in SETTINGS {
+        let answer = job::read_statement(file, missing, at);
+        let request = Message::call(b'S').lent(file).numbers(&[optional(missing), at as u64]);
+        l.expect(request, given(&answer, statement_numbers).twice());
+    }
 }
 
 pub fn expect_text(l: &mut Library, file: &[u8], quote: usize) {
@@ -165,7 +181,7 @@ fn job_calls(r: &mut Random, l: &mut Library) {
     let file = if r.once_in(60) { make::long_file(r) } else { make::job_file(r) };
     let places = r.pick(&[0, 1, 2, 5, 63, 64, 64, 64, 64, 64, 65, 70]);
     expect_job(l, &file, places);
-    if let Ok(offsets) = job::read_job(&file, 64) {
+    if let Ok(offsets) = job::read_job(&file, Missing::Immediate, 64) {
         let at = r.pick(&offsets);
         expect_statement(l, &file, at as usize);
     }

@@ -1,19 +1,25 @@
-//! Document 01's checked examples, its traps, and the readings that docs/DECISIONS.md names, P1's and P4's among them: with the numbers
+//! Document 01's checked examples, its traps, and the readings that docs/DECISIONS.md names, P1's, P4's and P7's among them: with the numbers
 //! written out, so that the reference is held against the documents too. Then the library is asked the same.
 
 use crate::calls::{expect_calendar, expect_job, expect_name_read, expect_record_written, expect_statement};
 use crate::library::{returned, Library};
 use crate::reference::calendar::{is_real_date, is_real_time};
-use crate::reference::job::{read_job, read_statement, Body, Start, Value};
+use crate::reference::job::{read_job, read_statement, Body, Missing, Start, Value, SETTINGS};
 use crate::reference::name::read_name;
 use crate::reference::record::{write_record, Outcome, Record};
 use crate::reference::report::{read_report, write_report};
 use crate::reports::{expect_report_read, expect_report_written};
 
-/// A file with what is returned: 0, or number and place.
-fn job(l: &mut Library, file: &[u8], number: u64, place: u64) {
-    assert_eq!(returned(&read_job(file, 64)), number + 256 * place, "{}", String::from_utf8_lossy(file));
+fn job_with(l: &mut Library, file: &[u8], missing: Missing, number: u64, place: u64) {
+    assert_eq!(returned(&read_job(file, missing, 64)), number + 256 * place, "{} {missing:?}", String::from_utf8_lossy(file));
     expect_job(l, file, 64);
+}
+
+/// A file with what is returned under either setting: 0, or number and place.
+fn job(l: &mut Library, file: &[u8], number: u64, place: u64) {
+    for missing in SETTINGS {
+        job_with(l, file, missing, number, place);
+    }
 }
 
 fn start(number: &str) -> Vec<u8> {
@@ -22,7 +28,7 @@ fn start(number: &str) -> Vec<u8> {
 
 fn number(l: &mut Library, digits: &str, value: Option<(i64, u32)>) {
     let file = start(digits);
-    let read = read_statement(&file, 0).ok().map(|s| match s.body {
+    let read = read_statement(&file, Missing::Refused, 0).ok().map(|s| match s.body {
         Body::Upload { start: Start::Condition { value: Value::Number { mantissa, scale }, .. }, .. } => (mantissa, scale),
         other => panic!("{other:?}"),
     });
@@ -81,6 +87,45 @@ fn job_examples(l: &mut Library) -> usize {
     ];
     for (file, number, place) in &cases {
         job(l, file, *number, *place);
+    }
+    cases.len()
+}
+
+/// P7: what is returned where a missing start clause is refused, and where it reads as START IMMEDIATE.
+fn clause_examples(l: &mut Library) -> usize {
+    let head = "JOB a RESPONSE \"x\"; ";
+    let own = str::to_string;
+    let cases: Vec<(String, u64, u64, u64, u64)> = vec![
+        (own("UPLOAD \"f\" ACTIVE;"), 4, 37, 0, 0),
+        (own("UPLOAD \"f\" \"g\";"), 4, 34, 0, 0),
+        (own("UPLOAD \"f\" p;"), 4, 32, 0, 0),
+        (own("DOWNLOAD \"f\" ACTIVE;"), 4, 39, 0, 0),
+        (own("DOWNLOAD \"f\" \"g\";"), 4, 36, 0, 0),
+        (own("DOWNLOAD \"f\" p;"), 4, 34, 0, 0),
+        (own("UPLOAD \"f\" ACTIVE // no clause\r\n ;"), 4, 53, 0, 0),
+        (own("UPLOAD \"f\" ACTIVE"), 18, 37, 18, 37),
+        (own("DOWNLOAD \"f\" p // no clause"), 18, 47, 18, 47),
+        (own("UPLOAD \"f\" ACTIVE; GETINFO"), 4, 37, 18, 46),
+        (own("UPLOAD \"f\" ACTIVE; JOB"), 4, 37, 4, 39),
+        (own("UPLOAD \"f\" ACTIVE; !"), 4, 37, 3, 39),
+        (own("UPLOAD \"f\" ACTIVE 1;"), 4, 38, 4, 38),
+        (own("UPLOAD \"f\" ACTIVE IMMEDIATE;"), 4, 38, 4, 38),
+        (own("UPLOAD \"f\" ACTIVE 24:00:00;"), 4, 38, 4, 38),
+        (own("UPLOAD \"f\" ACTIVE START;"), 4, 43, 4, 43),
+        (own("UPLOAD \"f\" ACTIVE START IMMEDIATE;"), 0, 0, 0, 0),
+        (own("DOWNLOAD \"f\" p START p = 1;"), 0, 0, 0, 0),
+        (own("UPLOAD \"f\" p START IMMEDIATE; DOWNLOAD \"f\" p; UPLOAD \"f\" p;"), 4, 64, 0, 0),
+        (own("GETINFO \"f\"; ABORT REPORT r; ABORT EVENT e;"), 0, 0, 0, 0),
+        ("UPLOAD \"f\" p;".repeat(63), 4, 32, 0, 0),
+        ("UPLOAD \"f\" p;".repeat(64), 4, 32, 6, 20 + 63 * 13),
+    ];
+    for (rest, number, place, earlier_number, earlier_place) in &cases {
+        let file = own(head) + rest;
+        job_with(l, file.as_bytes(), Missing::Refused, *number, *place);
+        job_with(l, file.as_bytes(), Missing::Immediate, *earlier_number, *earlier_place);
+        for at in 20..file.len() {
+            expect_statement(l, file.as_bytes(), at);
+        }
     }
     cases.len()
 }
@@ -278,5 +323,5 @@ fn reports_written(l: &mut Library) -> usize {
 }
 
 pub fn all(l: &mut Library) -> usize {
-    job_examples(l) + other_examples(l) + februaries(l) + reports_read(l) + reports_written(l)
+    job_examples(l) + clause_examples(l) + other_examples(l) + februaries(l) + reports_read(l) + reports_written(l)
 }

@@ -30,28 +30,28 @@ static void jobs(void) {
     uint32_t offsets[RB_MAX_STATEMENTS + 1];
     size_t statements, n = add(0, "JOB a RESPONSE \"b\";");
     for (uint32_t i = 1; i < RB_MAX_STATEMENTS; i++) n = add(n, "GETINFO \"c\";");
-    see("a file of the most statements", RB_DONE, rb_read_job(file, n, offsets, RB_MAX_STATEMENTS, &statements));
+    see("a file of the most statements", RB_DONE, rb_read_job(file, n, false, offsets, RB_MAX_STATEMENTS, &statements));
     see("their count", RB_MAX_STATEMENTS, statements);
-    see("one place less", RB_REFUSAL_TOO_FEW_PLACES, rb_read_job(file, n, offsets, RB_MAX_STATEMENTS - 1, &statements));
+    see("one place less", RB_REFUSAL_TOO_FEW_PLACES, rb_read_job(file, n, false, offsets, RB_MAX_STATEMENTS - 1, &statements));
     n = add(n, "GETINFO \"c\";");
     see("one statement more", RB_REFUSAL_TOO_MANY_STATEMENTS,
-        rb_refusal_number(rb_read_job(file, n, offsets, RB_MAX_STATEMENTS + 1, &statements)));
+        rb_refusal_number(rb_read_job(file, n, false, offsets, RB_MAX_STATEMENTS + 1, &statements)));
     memset(file, ' ', sizeof file);
-    rb_result end = rb_read_job(file, RB_MAX_JOB_BYTES, offsets, RB_MAX_STATEMENTS, &statements);
+    rb_result end = rb_read_job(file, RB_MAX_JOB_BYTES, false, offsets, RB_MAX_STATEMENTS, &statements);
     see("the longest file, of blanks", RB_REFUSAL_END_OF_FILE, rb_refusal_number(end));
     see("its end", RB_MAX_JOB_BYTES, rb_refusal_place(end));
-    see("one byte more", RB_REFUSAL_FILE_TOO_LONG, rb_read_job(file, sizeof file, offsets, RB_MAX_STATEMENTS, &statements));
+    see("one byte more", RB_REFUSAL_FILE_TOO_LONG, rb_read_job(file, sizeof file, false, offsets, RB_MAX_STATEMENTS, &statements));
     file[0] = file[RB_MAX_TEXT_BYTES + 1] = '"';
     see("the longest text of a string", RB_MAX_TEXT_BYTES, rb_text_length(file, sizeof file, 0));
     file[RB_MAX_TEXT_BYTES + 1] = ' ';
     file[RB_MAX_TEXT_BYTES + 2] = '"';
     see("one byte more of it", false, rb_is_text_at(file, sizeof file, 0));
-    rb_result text = rb_read_job(file, RB_MAX_TEXT_BYTES + 1, offsets, RB_MAX_STATEMENTS, &statements);
+    rb_result text = rb_read_job(file, RB_MAX_TEXT_BYTES + 1, false, offsets, RB_MAX_STATEMENTS, &statements);
     see("the longest text, and then the end", RB_REFUSAL_OPEN_STRING, text);
-    text = rb_read_job(file, RB_MAX_TEXT_BYTES + 2, offsets, RB_MAX_STATEMENTS, &statements);
+    text = rb_read_job(file, RB_MAX_TEXT_BYTES + 2, false, offsets, RB_MAX_STATEMENTS, &statements);
     see("one byte more, and then the end", RB_REFUSAL_BROKEN_STRING, text);
     file[RB_MAX_TEXT_BYTES + 1] = '\n';
-    text = rb_read_job(file, RB_MAX_TEXT_BYTES + 2, offsets, RB_MAX_STATEMENTS, &statements);
+    text = rb_read_job(file, RB_MAX_TEXT_BYTES + 2, false, offsets, RB_MAX_STATEMENTS, &statements);
     see("the longest text, and then a line break", RB_REFUSAL_BROKEN_STRING, text);
 }
 

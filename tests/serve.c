@@ -184,24 +184,26 @@ static void file_call(int call) {
     uint8_t *file = lend_in(&first);
     size_t n = first.bytes;
     if (call == 'J') {
+        bool optional = number_in() != 0;
         size_t places = (size_t)number_in(), statements = 77;
         uint8_t *offsets = lend(&second, 4 * places);
         memset(offsets, 0x5A, second.bytes);
-        number_out(rb_read_job(file, n, (uint32_t *)(void *)offsets, places, &statements));
+        number_out(rb_read_job(file, n, optional, (uint32_t *)(void *)offsets, places, &statements));
         number_out(statements);
         lent_out(&second);
     }
     if (call == 'S') {
+        bool optional = number_in() != 0;
         size_t at = (size_t)number_in();
         uint64_t numbers[RB_STATEMENT_NUMBERS];
         rb_statement s;
         s.mantissa = 77;
         numbers_before(numbers, RB_STATEMENT_NUMBERS);
-        number_out(rb_read_statement_numbers(file, n, at, numbers, &s.mantissa));
+        number_out(rb_read_statement_numbers(file, n, optional, at, numbers, &s.mantissa));
         numbers_out(numbers, RB_STATEMENT_NUMBERS);
         number_out((uint64_t)s.mantissa);
         STATEMENT(BEFORE);
-        number_out(rb_read_statement(file, n, at, &s));
+        number_out(rb_read_statement(file, n, optional, at, &s));
         STATEMENT(MEMBER_OUT);
     }
     if (call == 'T') {

@@ -29,16 +29,27 @@ fn first_forms() -> Vec<Form> {
     vec![vec![keyword("JOB"), Want::Name, keyword("RESPONSE"), Want::Text, Want::Semicolon]]
 }
 
+/// P7's setting: "A missing clause shall now be refused. Callers .. may ask for the earlier reading".
+#[derive(Clone, Copy, Debug, PartialEq, Eq)]
+pub enum Missing {
+    Refused,
+    Immediate,
+}
+
+pub const SETTINGS: [Missing; 2] = [Missing::Refused, Missing::Immediate];
+
 /// The forms of every other statement.
-fn later_forms() -> Vec<Form> {
-    let clauses: Vec<Form> = vec![
-        vec![],
+fn later_forms(missing: Missing) -> Vec<Form> {
+    let mut clauses: Vec<Form> = vec![
         vec![keyword("START"), keyword("IMMEDIATE")],
         vec![keyword("START"), Want::TimeFrom, Want::Time],
         vec![keyword("START"), Want::TimeFrom, Want::Time, Want::Date],
         vec![keyword("START"), Want::Name, Want::Operator, Want::Number],
         vec![keyword("START"), Want::Name, Want::Operator, Want::Text],
     ];
+    if missing == Missing::Immediate {
+        clauses.push(vec![]);
+    }
     let mut forms = Vec::new();
     for verb in ["UPLOAD", "DOWNLOAD"] {
         for target in [keyword("ACTIVE"), Want::Text, Want::Name] {
@@ -54,8 +65,8 @@ fn later_forms() -> Vec<Form> {
     forms
 }
 
-fn all_forms() -> Vec<Form> {
-    [first_forms(), later_forms()].concat()
+fn all_forms(missing: Missing) -> Vec<Form> {
+    [first_forms(), later_forms(missing)].concat()
 }
 
 fn bytes(file: &[u8], t: Token) -> &[u8] {
@@ -113,7 +124,7 @@ fn statement_tokens(file: &[u8], from: usize, mut forms: Vec<Form>) -> Result<Ve
 }
 
 /// The offsets of a job file's statements, where `places` are enough for them.
-pub fn read_job(file: &[u8], places: usize) -> Result<Vec<u32>, Refusal> {
+pub fn read_job(file: &[u8], missing: Missing, places: usize) -> Result<Vec<u32>, Refusal> {
     if file.len() > 65_535 {
         return plain(1);
     }
@@ -125,7 +136,7 @@ pub fn read_job(file: &[u8], places: usize) -> Result<Vec<u32>, Refusal> {
             Next::Token(t) if offsets.len() == 64 => return at(6, t.start),
             _ => {}
         }
-        let forms = if offsets.is_empty() { first_forms() } else { later_forms() };
+        let forms = if offsets.is_empty() { first_forms() } else { later_forms(missing) };
         let tokens = statement_tokens(file, place, forms)?;
         offsets.push(tokens[0].start as u32);
         place = tokens[tokens.len() - 1].end;
@@ -234,14 +245,14 @@ fn body_of(file: &[u8], t: &[Token]) -> Body {
 }
 
 /// "Each statement is read on its own from the place where it begins."
-pub fn read_statement(file: &[u8], from: usize) -> Result<Statement, Refusal> {
+pub fn read_statement(file: &[u8], missing: Missing, from: usize) -> Result<Statement, Refusal> {
     if file.len() > 65_535 {
         return plain(1);
     }
     if from > file.len() {
         return plain(11);
     }
-    let tokens = statement_tokens(file, from, all_forms())?;
+    let tokens = statement_tokens(file, from, all_forms(missing))?;
     Ok(Statement { offset: tokens[0].start, next: tokens[tokens.len() - 1].end, body: body_of(file, &tokens) })
 }
 

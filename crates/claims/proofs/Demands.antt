@@ -20,6 +20,7 @@ use Rattle.record_read.specs.Reading.{recordRead, contentOf, withText, textOf}
 use Rattle.record.specs.Writing as writing
 use Rattle.record_read.specs.declared.Record.{Record}
 use Rattle.record_read.proofs.RoundTrip as records
+use Rattle.grammar.specs.declared.StartClause.{StartClause}
 use Rattle.grammar.specs.Reading.{OffsetsRead as Reading}
 use Rattle.item.proofs.Lines.{tokens-at}
 use Rattle.item.proofs.Moments.{date-says, no-other-date, time-says}
@@ -29,6 +30,7 @@ use Rattle.job.specs.Statement.{textAt}
 use Rattle.job_claims.proofs.Claims.{judged, only, taken-exactly, one-exactly, two-exactly, three-exactly, fifteen-exactly, sixteen-exactly, seventeen-exactly, four-exactly, eighteen-exactly, five-exactly, six-exactly, statements-exactly, one-reading, end-is-last}
 use Rattle.job_claims.proofs.Determined.{one-job-answer, one-statement-answer}
 use Rattle.job_claims.proofs.Statements.{reading-exactly}
+use Rattle.job_claims.proofs.Clauses.{stricter-is-taken, stricter-is-read, clause-is-all, first-is-named, clause-missing, clause-cut, statement-missing, statement-is-named}
 use Rattle.job_claims.proofs.Hands.{job-tells, statement-tells, end-exactly, no-token-begins, one-hand}
 use Rattle.meaning.proofs.Lossless.{one-statement}
 use Rattle.number.proofs.Numerals.{numeral-reads, minus-zero}
@@ -51,13 +53,14 @@ use Rattle.session_histories.proofs.Fresh.{fresh-bytes}
 use Rattle.sessions.proofs.Laws.{in-range}
 use Rattle.sessions.specs.Table.{within, fresh}
 use Rattle.table_sound.specs.Bytes.{abs}
-use Rattle.claims.specs.Demands.{Demand1, Demand2, Hands, Reports, StoredDates}
+use Rattle.claims.specs.Demands.{Demand1, Demand2, MissingClause, Hands, Reports, StoredDates}
 use Rattle.claims.proofs.Demand1.{one-result}
 use Rattle.claims.proofs.Demand1Names.{read-name-exactly, write-name-exactly, refused-write-changes-nothing, read-name-determined, write-name-determined}
 use Rattle.claims.proofs.Demand1Records.{read-record-exactly, write-record-exactly, refused-record-changes-nothing, read-record-determined, write-record-determined}
 use Rattle.claims.proofs.Demand1Statements.{read-statement-exactly}
 use Rattle.claims.proofs.Fits.{read-name-fits, write-name-fits, read-record-fits, write-record-fits, read-job-fits, read-statement-fits, read-report-fits, write-report-fits, make-fits, place-fits, take-up-fits, answer-fits, collect-fits}
 use Rattle.claims.proofs.Demand1Table.{make-exactly, place-exactly, take-up-exactly, answer-exactly, collect-exactly}
+use Rattle.claims.proofs.StandInReaders.{settings-differ}
 use Rattle.claims.proofs.StoredDates.{unreal-date-is-unsound, unsound-is-refused}
 use Rattle.claims.proofs.Demand1TableResults.{make-refused-keeps, place-refused-keeps, take-up-refused-keeps, answer-refused-keeps, collect-refused-keeps, make-determined, place-determined, take-up-determined, answer-determined, collect-determined}
 
@@ -82,9 +85,10 @@ record-stands : (c : Content) (out : List ℕ) (k : ℕ) → writing.written com
 unfolding writing.written writing.writtenBytes
 record-stands c out k = wrote (writing.writeRefusal commands c (length out)) _ k _ out
 
-offsets-stand : (file offsets os : List ℕ) → let x = readJob file (length offsets) in x ≡ done os → filled x offsets ≡ put offsets 0 os
-offsets-stand file offsets os e =
-    let fits = taken-exactly file (length offsets) os .0 e .fits in
+offsets-stand : (clause : StartClause) (file offsets os : List ℕ) → let x = readJob clause file (length offsets) in
+    x ≡ done os → filled x offsets ≡ put offsets 0 os
+offsets-stand clause file offsets os e =
+    let fits = taken-exactly clause file (length offsets) os .0 e .fits in
     rw e (sym (put-eq offsets 0 os (omega (arith, fits)) ∙ rw zero-add))
 
 pub demand-1 : Demand1
@@ -95,9 +99,9 @@ demand-1 =
       writes-name = λ max n kind out. record { answers = write-name-exactly max n out; refusal-leaves = refused-write-changes-nothing max n kind out };
       reads-record = read-record-exactly commands (omega arith);
       writes-record = λ c out. record { answers = write-record-exactly commands c out; refusal-leaves = refused-record-changes-nothing commands c out };
-      reads-job = λ file offsets.
+      reads-job = λ clause file offsets.
           record {
-            answers = (judged file (length offsets), only file (length offsets));
+            answers = (judged clause file (length offsets), only clause file (length offsets));
             refusal-leaves = λ number place e. ap (λ (x : Reading). filled x offsets) e;
           };
       reads-statement = read-statement-exactly;
@@ -179,27 +183,27 @@ record-text : (s : List ℕ) (v : Result Record) (c : Content) → withText s v 
 record-text s (done r) c e = let z : contentOf s r ≡ c = cc in ap (λ x. x .text) z
 record-text s (refused n p) c e = absurd (refused-not-done e)
 
-pub demand-2 : Demand2
-demand-2 =
+pub demand-2 : (clause : StartClause) → Demand2 clause
+demand-2 clause =
     record {
-      verdict = λ file offsets. (readJob file (length offsets), judged file (length offsets), refl, refl);
+      verdict = λ file offsets. (readJob clause file (length offsets), judged clause file (length offsets), refl, refl);
       tokens = tokens-at;
-      taken = taken-exactly;
-      statements = statements-exactly;
-      one-reading = one-reading;
-      reading = reading-exactly;
-      one = one-exactly;
-      three = three-exactly;
-      fifteen = fifteen-exactly;
-      sixteen = sixteen-exactly;
-      seventeen = seventeen-exactly;
-      six = six-exactly;
-      five = five-exactly;
-      four = four-exactly;
-      eighteen = eighteen-exactly;
-      two = two-exactly;
-      end-is-last = λ s p. end-is-last s 0 p;
-      in-file = in-file-exactly;
+      taken = taken-exactly clause;
+      statements = statements-exactly clause;
+      one-reading = one-reading clause;
+      reading = reading-exactly clause;
+      one = one-exactly clause;
+      three = three-exactly clause;
+      fifteen = fifteen-exactly clause;
+      sixteen = sixteen-exactly clause;
+      seventeen = seventeen-exactly clause;
+      six = six-exactly clause;
+      five = five-exactly clause;
+      four = four-exactly clause;
+      eighteen = eighteen-exactly clause;
+      two = two-exactly clause;
+      end-is-last = λ s p. end-is-last clause s 0 p;
+      in-file = in-file-exactly clause;
       one-meaning = one-statement;
       number-token = number-token-exactly;
       number-reads = λ bs minus w f n. numeral-reads n;
@@ -222,6 +226,22 @@ demand-2 =
       record-length = records.lengths;
       name-write-then-read = names.write-then-read;
       name-read-then-write = names.read-then-write;
+    }
+
+-- ---- a missing start clause
+
+pub missing-clause : MissingClause
+missing-clause =
+    record {
+      stricter-is-taken = stricter-is-taken;
+      stricter-is-read = stricter-is-read;
+      clause-is-all = clause-is-all;
+      first-is-named = first-is-named;
+      clause-missing = clause-missing;
+      clause-cut = clause-cut;
+      statement-missing = statement-missing;
+      statement-is-named = statement-is-named;
+      settings-differ = settings-differ;
     }
 
 -- ---- what is wrong with the token

@@ -1,4 +1,4 @@
--- Every starred example of document 01 holds, and so do those of P1, P2 and P4: one computed test over the whole table.
+-- Every starred example of document 01 holds, and so do those of P1, P2, P4 and P7: one computed test over the whole table.
 use mathlib.Core.Path.{_≡_, refl}
 use mathlib.Core.Bool.{true}
 use mathlib.Core.List.{List, [], _∷_, List·Memᴰ, List·Memᴰ·cases-cons, List·Memᴰ·not-nil}

@@ -10,6 +10,7 @@ use Rattle.counts.specs.Result.Result.{refused}
 use Rattle.sessions.specs.Table.{State}
 use Rattle.sessions.specs.declared.Answer.{Answer}
 use Rattle.record.specs.Record.{Content}
+use Rattle.grammar.specs.declared.StartClause.{StartClause}
 use Rattle.job_claims.specs.Verdict.{Verdict}
 use Rattle.job_claims.proofs.Claims.{refusal-fits, only}
 use Rattle.job_claims.proofs.Statements.{statement-refusal-fits}
@@ -40,11 +41,11 @@ write-record-fits limit c room number place (record-row.seven e) = without-place
 write-record-fits limit c room number place (record-row.five e f) = without-place (omega arith) (omega arith)
 write-record-fits limit c room number place (record-row.eight e f l) = without-place (omega arith) (omega arith)
 
-pub read-job-fits : (file : List ℕ) (room : ℕ) → Fits (Verdict file room)
-read-job-fits file room number place v = refusal-fits file room (only file room (refused number place) v)
+pub read-job-fits : (clause : StartClause) (file : List ℕ) (room : ℕ) → Fits (Verdict clause file room)
+read-job-fits clause file room number place v = refusal-fits clause file room (only clause file room (refused number place) v)
 
-pub read-statement-fits : (file : List ℕ) (at : ℕ) → Fits (StatementRow file at)
-read-statement-fits file at number place v = statement-refusal-fits file at (read-statement-exactly file at .1 (refused number place) v)
+pub read-statement-fits : (clause : StartClause) (file : List ℕ) (at : ℕ) → Fits (StatementRow clause file at)
+read-statement-fits clause file at number place v = statement-refusal-fits clause file at (read-statement-exactly clause file at .1 (refused number place) v)
 
 -- a report's 7 has the start of a line, which stands within the file
 breaks-inside : {d : ℕ} {text : List ℕ} {p : ℕ} → Breaks d text p → p ≤ length text

@@ -22,10 +22,14 @@ use Rattle.record_read.specs.Reading as reading
 use Rattle.record_read.specs.Reading.{recordRead, contentOf, withText, textOf}
 use Rattle.record.specs.Writing as writing
 use Rattle.record_read.specs.declared.Record.{Record}
+use Rattle.grammar.specs.declared.StartClause.{StartClause}
+use Rattle.grammar.specs.declared.StartClause.the-variants.{Required, Optional}
 use Rattle.grammar.specs.Grammar.Class.{number as noDate, date, unrealDate}
 use Rattle.grammar.specs.Statement.{Statement}
 use Rattle.grammar.specs.Productions.{Placed, File, Begins}
 use Rattle.grammar.specs.Reading.{OffsetsRead as Reading}
+use Rattle.grammar.specs.Reading.Last.{end}
+use Rattle.grammar.specs.Clauses.{ClauseDue, LacksAfter, Lacks, FirstLacks, BeginsLacking}
 use Rattle.grammar.specs.Rows.{Three, Fifteen, Sixteen, Seventeen, Four, Eighteen, Five, Six}
 use Rattle.token.specs.Token.{ContentByte, WholeString, isTextAt, contentAt, tokenAt, nextToken}
 use Rattle.token.specs.declared.Token.the-variants.{NoToken, Number, Text}
@@ -39,6 +43,7 @@ use Rattle.statement.specs.declared.Statement.{Statement as StatementRead}
 use Rattle.meaning.specs.Paper.{paperStatement}
 use Rattle.job.specs.Job.{readJob, filled, paperJob}
 use Rattle.job.specs.Statement.{placed as placedAt, Tiled, readStatement, paperStatementAt, textAt}
+use Rattle.job.specs.declared.StatementAt.{StatementAt}
 use Rattle.job_claims.specs.Verdict.{Verdict, Taken, Crowded}
 use Rattle.job_claims.specs.Rows.{One}
 use Rattle.job_claims.specs.Hands.{TokenBegins, Tells}
@@ -81,8 +86,9 @@ pub record Demand1 : Type 0 where
   pub reads-record : (bytes : List ℕ) → Exactly (withText bytes (recordRead commands bytes)) (ReadRow commands bytes)
   pub writes-record : (c : Content) (out : List ℕ)
       → Obeys (WriteRow commands c (length out)) out (writing.written commands c out, writing.writtenBytes commands c out)
-  pub reads-job : (file offsets : List ℕ) → let x = readJob file (length offsets) in Obeys (Verdict file (length offsets)) offsets (x, filled x offsets)
-  pub reads-statement : (file : List ℕ) (at : ℕ) → Exactly (readStatement file at) (StatementRow file at)
+  pub reads-job : (clause : StartClause) (file offsets : List ℕ) → let x = readJob clause file (length offsets) in
+      Obeys (Verdict clause file (length offsets)) offsets (x, filled x offsets)
+  pub reads-statement : (clause : StartClause) (file : List ℕ) (at : ℕ) → Exactly (readStatement clause file at) (StatementRow clause file at)
   pub reads-report : (d : ℕ) (file cells : List ℕ) → let x = readReport d file (length cells) in
       Obeys (ReadReportRow d file (length cells)) cells (x, report.filled x cells)
   pub writes-report : (source cells : List ℕ) (many d : ℕ) (out : List ℕ) → let x = reportWriting.written source cells many d (length out) in
@@ -99,8 +105,8 @@ pub record Demand1 : Type 0 where
   pub fits-write-name : (max n room : ℕ) → Fits (WriteNameRow max n room)
   pub fits-read-record : (bytes : List ℕ) → Fits (ReadRow commands bytes)
   pub fits-write-record : (c : Content) (room : ℕ) → Fits (WriteRow commands c room)
-  pub fits-read-job : (file : List ℕ) (room : ℕ) → Fits (Verdict file room)
-  pub fits-read-statement : (file : List ℕ) (at : ℕ) → Fits (StatementRow file at)
+  pub fits-read-job : (clause : StartClause) (file : List ℕ) (room : ℕ) → Fits (Verdict clause file room)
+  pub fits-read-statement : (clause : StartClause) (file : List ℕ) (at : ℕ) → Fits (StatementRow clause file at)
   pub fits-read-report : (d : ℕ) (file : List ℕ) (room : ℕ) → FitsUpTo (length file) (ReadReportRow d file room)
   pub fits-write-report : (source cells : List ℕ) (many d room : ℕ) → Fits (WriteReportRow source cells many d room)
   pub fits-make : (b : List ℕ) (max : ℕ) → Fits (MakeRow b max)
@@ -140,7 +146,8 @@ pub record Demand1 : Type 0 where
       × ((number place : ℕ) → x ≡ refused number place → report.sized x ≡ refused number place)
   -- "On success, places beyond those written stay.": a name, a record, a report, a reply ("all records in order") stands at the start of the output, offsets
   -- and cells at the start of what is lent for them
-  pub offsets-written : (file offsets os : List ℕ) → let x = readJob file (length offsets) in x ≡ done os → filled x offsets ≡ put offsets 0 os
+  pub offsets-written : (clause : StartClause) (file offsets os : List ℕ) → let x = readJob clause file (length offsets) in
+      x ≡ done os → filled x offsets ≡ put offsets 0 os
   pub cells-written : (d : ℕ) (file cells : List ℕ) (t : Told) → let x = readReport d file (length cells) in
       x ≡ done t → report.filled x cells ≡ put cells 0 (t .cells)
   pub report-written : (source cells : List ℕ) (many d : ℕ) (out text : List ℕ) → let x = reportWriting.written source cells many d (length out) in
@@ -155,45 +162,47 @@ pub record Demand1 : Type 0 where
 
 -- ---- Demand 2: "A job file is taken when, and only when, it obeys 01's grammar and limits and the offset table has room, and its reading is the one the
 -- grammar gives; a break is named by its leftmost place. Records written and read come back the same, both ways round."
+-- P7: "Demand 2 holds for each setting against its own grammar.": a start clause is required, or optional.
 
 -- a reader of job files: file and lent offset table, to the count of statements and the table at exit
 abbrev pub Reader : Type 0
 Reader = (file offsets : List ℕ) → Result ℕ × List ℕ
 
 -- it gives 01's verdict on each file, and writes the offsets of the statements
-abbrev pub Reads : Reader → Type 0
-Reads f = (file offsets : List ℕ) → (x : Reading) × Verdict file (length offsets) x × (f file offsets .0 ≡ counted x) × (f file offsets .1 ≡ filled x offsets)
+abbrev pub Reads : StartClause → Reader → Type 0
+Reads clause f =
+    (file offsets : List ℕ) → (x : Reading) × Verdict clause file (length offsets) x × (f file offsets .0 ≡ counted x) × (f file offsets .1 ≡ filled x offsets)
 
-pub record Demand2 : Type 0 where
-  pub verdict : Reads λ file offsets. let x = readJob file (length offsets) in (counted x, filled x offsets)
+pub record Demand2 (clause : StartClause) : Type 0 where
+  pub verdict : Reads clause λ file offsets. let x = readJob clause file (length offsets) in (counted x, filled x offsets)
   -- the tokens of a file from any place on, and what ends them
   pub tokens : (s : List ℕ) (i : ℕ) → Tokens s i (lineAt s i .tokens) (lineAt s i .last)
   -- "taken when, and only when ..": `Taken` has the offsets of the statements that the grammar gives
-  pub taken : (s : List ℕ) (room : ℕ) (os : List ℕ) → readJob s room ≡ done os ↔ Taken s room os
+  pub taken : (s : List ℕ) (room : ℕ) (os : List ℕ) → readJob clause s room ≡ done os ↔ Taken clause s room os
   -- "and its reading is the one the grammar gives": the statements that the productions give, each "read on its own from the place where it begins";
   -- there is one such list
-  pub statements : (s : List ℕ) (room : ℕ) (os : List ℕ) → readJob s room ≡ done os → (ys : List Statement) → File (line s .tokens) os ys ↔ Tiled s 0 os ys
-  pub one-reading : (s : List ℕ) (room : ℕ) (os : List ℕ) → readJob s room ≡ done os → (xs ys : List Statement) → File (line s .tokens) os xs
-      → File (line s .tokens) os ys → xs ≡ ys
+  pub statements : (s : List ℕ) (room : ℕ) (os : List ℕ) → readJob clause s room ≡ done os → (ys : List Statement) → File clause (line s .tokens) os ys ↔ Tiled clause s 0 os ys
+  pub one-reading : (s : List ℕ) (room : ℕ) (os : List ℕ) → readJob clause s room ≡ done os → (xs ys : List Statement) → File clause (line s .tokens) os xs
+      → File clause (line s .tokens) os ys → xs ≡ ys
   -- a statement is what the tokens from the offset on, up to and including their first `;`, read as: the last row of the statement call
   pub reading : (s : List ℕ) (at : ℕ) (x : StatementRead) (o e : ℕ)
-      → readStatement s at ≡ done (placedAt x o e) ↔ (length s ≤ fileBytes) × (at ≤ length s) × One s at (paperStatement x) o e
+      → readStatement clause s at ≡ done (placedAt x o e) ↔ (length s ≤ fileBytes) × (at ≤ length s) × One clause s at (paperStatement x) o e
   -- "a break is named by its leftmost place": "tested for 1, then from the left; the leftmost place decides, and at one place 3 goes before 6, 6 before
   -- 5, 5 before 4. Then 2."; P2: "All places and the order stay, with 15 to 17 where 3 stood and 18 where 4 did."
-  pub one : (s : List ℕ) (room p : ℕ) → readJob s room ≡ refused fileTooLong p ↔ (fileBytes < length s) × p ≡ 0
-  pub three : (s : List ℕ) (room p : ℕ) → readJob s room ≡ refused noToken p ↔ (length s ≤ fileBytes) × Three (line s .tokens) (line s .last) p
-  pub fifteen : (s : List ℕ) (room p : ℕ) → readJob s room ≡ refused openString p ↔ (length s ≤ fileBytes) × Fifteen (line s .tokens) (line s .last) p
-  pub sixteen : (s : List ℕ) (room p : ℕ) → readJob s room ≡ refused brokenString p ↔ (length s ≤ fileBytes) × Sixteen (line s .tokens) (line s .last) p
-  pub seventeen : (s : List ℕ) (room p : ℕ) → readJob s room ≡ refused misshapen p ↔ (length s ≤ fileBytes) × Seventeen (line s .tokens) (line s .last) p
-  pub six : (s : List ℕ) (room p : ℕ) → readJob s room ≡ refused tooManyStatements p ↔ (length s ≤ fileBytes) × Six (line s .tokens) p
-  pub five : (s : List ℕ) (room p : ℕ) → readJob s room ≡ refused notReal p ↔ (length s ≤ fileBytes) × Five (line s .tokens) p
-  pub four : (s : List ℕ) (room p : ℕ) → readJob s room ≡ refused unexpected p ↔ (length s ≤ fileBytes) × Four (line s .tokens) p
-  pub eighteen : (s : List ℕ) (room p : ℕ) → readJob s room ≡ refused endOfFile p ↔ (length s ≤ fileBytes) × Eighteen (line s .tokens) (line s .last) p
-  pub two : (s : List ℕ) (room p : ℕ) → readJob s room ≡ refused tooFewPlaces p ↔ ((os : List ℕ) × Crowded s room os) × p ≡ 0
+  pub one : (s : List ℕ) (room p : ℕ) → readJob clause s room ≡ refused fileTooLong p ↔ (fileBytes < length s) × p ≡ 0
+  pub three : (s : List ℕ) (room p : ℕ) → readJob clause s room ≡ refused noToken p ↔ (length s ≤ fileBytes) × Three clause (line s .tokens) (line s .last) p
+  pub fifteen : (s : List ℕ) (room p : ℕ) → readJob clause s room ≡ refused openString p ↔ (length s ≤ fileBytes) × Fifteen clause (line s .tokens) (line s .last) p
+  pub sixteen : (s : List ℕ) (room p : ℕ) → readJob clause s room ≡ refused brokenString p ↔ (length s ≤ fileBytes) × Sixteen clause (line s .tokens) (line s .last) p
+  pub seventeen : (s : List ℕ) (room p : ℕ) → readJob clause s room ≡ refused misshapen p ↔ (length s ≤ fileBytes) × Seventeen clause (line s .tokens) (line s .last) p
+  pub six : (s : List ℕ) (room p : ℕ) → readJob clause s room ≡ refused tooManyStatements p ↔ (length s ≤ fileBytes) × Six clause (line s .tokens) p
+  pub five : (s : List ℕ) (room p : ℕ) → readJob clause s room ≡ refused notReal p ↔ (length s ≤ fileBytes) × Five clause (line s .tokens) p
+  pub four : (s : List ℕ) (room p : ℕ) → readJob clause s room ≡ refused unexpected p ↔ (length s ≤ fileBytes) × Four clause (line s .tokens) p
+  pub eighteen : (s : List ℕ) (room p : ℕ) → readJob clause s room ≡ refused endOfFile p ↔ (length s ≤ fileBytes) × Eighteen clause (line s .tokens) (line s .last) p
+  pub two : (s : List ℕ) (room p : ℕ) → readJob clause s room ≡ refused tooFewPlaces p ↔ ((os : List ℕ) × Crowded clause s room os) × p ≡ 0
   -- "the end is at the file's length"
-  pub end-is-last : (s : List ℕ) (p : ℕ) → Eighteen (line s .tokens) (line s .last) p → p ≡ length s
+  pub end-is-last : (s : List ℕ) (p : ℕ) → Eighteen clause (line s .tokens) (line s .last) p → p ≡ length s
   -- 4 speaks of what "legal" files have: what may stand by its tokens does stand in a file
-  pub in-file : (a : List Placed) → Begins a ↔ InFile a
+  pub in-file : (a : List Placed) → Begins clause a ↔ InFile clause a
   -- the paper's value of a statement loses nothing
   pub one-meaning : (x y : StatementRead) → paperStatement x ≡ paperStatement y → x ≡ y
   -- "A number is read as a signed whole number of at most 16 digits with the count of digits after the point. `-0` reads as 0.": number tokens stand
@@ -234,6 +243,34 @@ pub record Demand2 : Type 0 where
   pub name-read-then-write : (max n : ℕ) (kind : Kind) (bytes out : List ℕ) → name.nameRead max bytes ≡ done (n, kind) → 12 ≤ length out
       → (name.written max n out ≡ done 12) × (part (name.writtenBytes max n kind out) 0 12 ≡ bytes)
 
+-- ---- A missing start clause (document 02, P7): "A missing clause shall now be refused. Callers that relied on it reading as IMMEDIATE .. may ask for the
+-- earlier reading by a setting given with the call". `Required` is the new setting, `Optional` the old one.
+
+pub record MissingClause : Type 0 where
+  -- "A file taken under the new one is taken under the old one with the same reading.": the same offsets, the same statements
+  pub stricter-is-taken : (s : List ℕ) (room : ℕ) (os : List ℕ) → readJob Required s room ≡ done os
+      → (readJob Optional s room ≡ done os) × ((ys : List Statement) → Tiled Required s 0 os ys ↔ Tiled Optional s 0 os ys)
+  pub stricter-is-read : (s : List ℕ) (at : ℕ) (x : StatementAt) → readStatement Required s at ≡ done x → readStatement Optional s at ≡ done x
+  -- a file taken under the old one is taken under the new one exactly when no UPLOAD or DOWNLOAD of it lacks its clause
+  pub clause-is-all : (s : List ℕ) (room : ℕ) (os : List ℕ) → readJob Optional s room ≡ done os
+      → readJob Required s room ≡ done os ↔ ((p : ℕ) → Lacks (line s .tokens) p → ⊥)
+  -- "Refusals: 4 at the `;` that stands where the clause must begin, or 18 at the end of file.": of such a file 4 at the first, and no other
+  pub first-is-named : (s : List ℕ) (room : ℕ) (os : List ℕ) → readJob Optional s room ≡ done os
+      → (n p : ℕ) → readJob Required s room ≡ refused n p ↔ (n ≡ unexpected) × FirstLacks (line s .tokens) p
+  -- of any file that is in order up to where the clause must begin: 4 at the `;`, and 18 with either setting at the end
+  pub clause-missing : (s : List ℕ) (room : ℕ) → length s ≤ fileBytes → (a : List Placed) (p : ℕ) → Begins Required a → LacksAfter (line s .tokens) a p
+      → readJob Required s room ≡ refused unexpected p
+  pub clause-cut : (s : List ℕ) (room : ℕ) → length s ≤ fileBytes → (clause : StartClause) (p : ℕ) → Begins clause (line s .tokens)
+      → ClauseDue (line s .tokens) → line s .last ≡ end p → readJob clause s room ≡ refused endOfFile (length s)
+  -- of one statement the same: 4 at the `;` where the tokens from the offset on begin with one that lacks its clause, and no other refusal of what is read
+  -- under the old setting
+  pub statement-missing : (s : List ℕ) (at : ℕ) → length s ≤ fileBytes → at ≤ length s → (p : ℕ) → BeginsLacking (lineAt s at .tokens) p
+      → readStatement Required s at ≡ refused unexpected p
+  pub statement-is-named : (s : List ℕ) (at : ℕ) (x : StatementAt) → readStatement Optional s at ≡ done x
+      → (n p : ℕ) → readStatement Required s at ≡ refused n p ↔ (n ≡ unexpected) × BeginsLacking (lineAt s at .tokens) p
+  -- and no reader is right under both, whatever it answers
+  pub settings-differ : (f : Reader) → Reads Required f → Reads Optional f → ⊥
+
 -- ---- What is wrong with the token (document 02, P2): "An open quote and a stray byte need different hands, and so do a cut file and a misplaced word."
 
 pub record Hands : Type 0 where
@@ -248,8 +285,8 @@ pub record Hands : Type 0 where
   pub forbidden-after-255 : (c : List ℕ) → ((b : ℕ) → List·Memᴰ b c → ContentByte b) → length c ≡ 255 → (met : ℕ) → Forbidden met → (after : List ℕ)
       → tokenAt (34 ∷ (c ++ (met ∷ after))) 0 ≡ NoToken BrokenString 0
   -- the number alone tells what stands at the place of a refusal, of a whole file and of one statement
-  pub job-tells : (s : List ℕ) (room n p : ℕ) → readJob s room ≡ refused n p → (n ≡ fileTooLong) ⊎ ((n ≡ tooFewPlaces) ⊎ Tells s p n)
-  pub statement-tells : (s : List ℕ) (at n p : ℕ) → readStatement s at ≡ refused n p → (n ≡ fileTooLong) ⊎ ((n ≡ outOfRange) ⊎ Tells s p n)
+  pub job-tells : (s : List ℕ) (clause : StartClause) (room n p : ℕ) → readJob clause s room ≡ refused n p → (n ≡ fileTooLong) ⊎ ((n ≡ tooFewPlaces) ⊎ Tells s p n)
+  pub statement-tells : (s : List ℕ) (clause : StartClause) (at n p : ℕ) → readStatement clause s at ≡ refused n p → (n ≡ fileTooLong) ⊎ ((n ≡ outOfRange) ⊎ Tells s p n)
   -- 18 exactly at the file's length; 3, 15, 16 and 17 only where no token begins, and there one of them
   pub end-exactly : (s : List ℕ) (n p : ℕ) → Tells s p n → (n ≡ endOfFile) ↔ (p ≡ length s)
   pub no-token-begins : (s : List ℕ) (p : ℕ) → TokenBegins s p

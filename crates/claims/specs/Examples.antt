@@ -1,5 +1,5 @@
 -- The examples that document 01 marks with a star, with P2's numbers, both ends, sign and zero of its numbers, and, of document 02, some report files of P1,
--- faults of P2 and dates of P4, in one table: the words, and the test that they are, on the definitions that the contracts cite. `proofs/Examples` proves
+-- faults of P2, dates of P4 and missing start clauses of P7, in one table: the words, and the test that they are, on the definitions that the contracts cite. `proofs/Examples` proves
 -- that every row holds, by one computation.
 use Prim.Native.Nat.{ℕ}
 use Prim.Native.String.{String}
@@ -13,6 +13,7 @@ use Rattle.calendar.specs.Calendar.{realDate, realTime}
 use Rattle.counts.specs.Limits.{statements}
 use Rattle.counts.specs.Refusals.{noToken, unexpected, notARecord, tooLittleRoom, outOfRange, openString, brokenString, misshapen, endOfFile}
 use Rattle.counts.specs.Result.{Result, refused, done}
+use Rattle.grammar.specs.declared.StartClause.the-variants.{Required, Optional}
 use Rattle.job.specs.Job.{readJob}
 use Rattle.number.specs.Number.{numberOf}
 use Rattle.number.specs.declared.Number.{Number}
@@ -59,9 +60,12 @@ sameWhole (negsuc m) (negsuc n) = eqb m n
 abbrev pub sameNumber : Number → Number → Bool
 sameNumber x y = sameWhole (x .mantissa) (y .mantissa) && eqb (x .scale) (y .scale)
 
--- a job file, read with a table of 64 places
+-- a job file, read with a table of 64 places: with P7's new setting, and with the earlier one
 abbrev pub job : String → Result (List ℕ)
-job text = readJob (ascii text) statements
+job text = readJob Required (ascii text) statements
+
+abbrev pub jobAsBefore : String → Result (List ℕ)
+jobAsBefore text = readJob Optional (ascii text) statements
 
 -- the text is a token, though none that a file begins with (else 17), and reads as a number with this mantissa and scale
 abbrev pub reads : String → ℤ → ℕ → Bool
@@ -107,6 +111,13 @@ examples =
     ∷ row "-1234567890.123456: the same digits, scale 6" (reads "-1234567890.123456" (negℤ (pos 1234567890123456)) 6)
     ∷ row "17 digits: 17" (isRefused misshapen 0 (job "12345678901234567"))
     ∷ row "17 digits with a point: 17" (isRefused misshapen 0 (job "1234567890.1234567"))
+    ∷ row "UPLOAD without a start clause: 4 at its ;" (isRefused unexpected 37 (job "JOB a RESPONSE \"x\"; UPLOAD \"f\" ACTIVE;"))
+    ∷ row "the same by the earlier setting: taken" (isTakenAt (0 ∷ 20 ∷ []) (jobAsBefore "JOB a RESPONSE \"x\"; UPLOAD \"f\" ACTIVE;"))
+    ∷ row "DOWNLOAD without a start clause: 4 at its ;" (isRefused unexpected 34 (job "JOB a RESPONSE \"x\"; DOWNLOAD \"f\" p;"))
+    ∷ row "cut off before the clause: 18 at the end" (isRefused endOfFile 37 (job "JOB a RESPONSE \"x\"; UPLOAD \"f\" ACTIVE"))
+    ∷ row "the same by the earlier setting: 18 at the end" (isRefused endOfFile 37 (jobAsBefore "JOB a RESPONSE \"x\"; UPLOAD \"f\" ACTIVE"))
+    ∷ row "UPLOAD with START IMMEDIATE: taken" (isTakenAt (0 ∷ 20 ∷ []) (job "JOB a RESPONSE \"x\"; UPLOAD \"f\" ACTIVE START IMMEDIATE;"))
+    ∷ row "GETINFO has no start clause: taken" (isTakenAt (0 ∷ 20 ∷ []) (job "JOB a RESPONSE \"x\"; GETINFO \"f\";"))
     ∷ row "PROCESSED, n 1, empty text: 43 bytes" (eqb (recordLength Processed) 43)
     ∷ row "ERROR: 51" (eqb (recordLength (Error 6 16)) 51)
     ∷ row "date 20240431: refused" (not (realDate 20240431))

@@ -13,6 +13,7 @@ use Rattle.sessions.specs.Table.{numbered, records}
 use Rattle.sessions.specs.declared.Answer.{Answer}
 use Rattle.session_table.specs.Calls.{freshBytes}
 use Rattle.session_histories.specs.Steps.{Step, stepBytes, bytesAfter}
+use Rattle.grammar.specs.declared.StartClause.{StartClause}
 use Rattle.statement.specs.declared.Statement.{Statement}
 use Rattle.job.specs.declared.StatementAt.{StatementAt}
 use Rattle.table_sound.specs.Bytes.{abs}
@@ -165,8 +166,8 @@ MakesUpCount f madeUp = (file offsets : List ℕ) (n : ℕ) → f file offsets .
 abbrev pub StatementReader : Type 0
 StatementReader = (file : List ℕ) (at : ℕ) → Result StatementAt
 
-abbrev pub ReadsStatements : StatementReader → Type 0
-ReadsStatements f = (file : List ℕ) (at : ℕ) → StatementRow file at (f file at)
+abbrev pub ReadsStatements : StartClause → StatementReader → Type 0
+ReadsStatements clause f = (file : List ℕ) (at : ℕ) → StatementRow clause file at (f file at)
 
 abbrev pub StatementRefuses : StatementReader → Type 0
 StatementRefuses f = (file : List ℕ) (at : ℕ) → IsRefused (f file at)
@@ -179,10 +180,10 @@ OneStatement f x = (file : List ℕ) (at : ℕ) (y : StatementAt) → f file at 
 
 pub record Refuted : Type 0 where
   -- "A reader that refuses everything, or gives one constant reading, breaks demand 2."
-  pub reader-must-take : (f : Reader) → Reads f → ReaderRefuses f → ⊥
-  pub reader-must-look : (f : Reader) → Reads f → (given : List ℕ → Result ℕ × List ℕ) → OneReading f given → ⊥
-  pub statement-must-be-read : (f : StatementReader) → ReadsStatements f → StatementRefuses f → ⊥
-  pub statement-must-look : (f : StatementReader) → ReadsStatements f → (x : Statement) → OneStatement f x → ⊥
+  pub reader-must-take : (clause : StartClause) (f : Reader) → Reads clause f → ReaderRefuses f → ⊥
+  pub reader-must-look : (clause : StartClause) (f : Reader) → Reads clause f → (given : List ℕ → Result ℕ × List ℕ) → OneReading f given → ⊥
+  pub statement-must-be-read : (clause : StartClause) (f : StatementReader) → ReadsStatements clause f → StatementRefuses f → ⊥
+  pub statement-must-look : (clause : StartClause) (f : StatementReader) → ReadsStatements clause f → (x : Statement) → OneStatement f x → ⊥
   -- "A place, take-up or collect call that always refuses breaks demand 1, since each refusal comes only under its stated condition."
   pub place-must-take : (f : PlaceCall) → ((b : List ℕ) (p n : ℕ) → PlaceRow b (abs b) p n (f b p n .0)) → PlaceRefuses f → ⊥
   pub take-up-must-give : (f : TakeUpCall) → ((b : List ℕ) → TakeUpRow b (abs b) (f b .0)) → TakeUpRefuses f → ⊥
@@ -196,7 +197,7 @@ pub record Refuted : Type 0 where
   pub later-not-invented : (fresh : ℕ → List ℕ) (step : Step) → Demand3 fresh step → (invented : ℕ → ℕ → List ℕ → ℕ × List ℕ) → Invents step invented
       → (p t : ℕ) → 1 < t → SaysAccepted fresh step p t → ⊥
   -- "A made-up statement count breaks the grammar's reading"
-  pub statements-not-made-up : (f : Reader) → Reads f → (madeUp : ℕ → List ℕ → ℕ) → MakesUpCount f madeUp → ⊥
+  pub statements-not-made-up : (clause : StartClause) (f : Reader) → Reads clause f → (madeUp : ℕ → List ℕ → ℕ) → MakesUpCount f madeUp → ⊥
   -- "a made-up command count breaks demand 3"
   pub commands-not-made-up : (fresh : ℕ → List ℕ) (step : Step) → Demand3 fresh step → (n k : ℕ) → (n ≡ k → ⊥) → HandsOver fresh step n k → ⊥
   pub commands-not-held-back : (fresh : ℕ → List ℕ) (step : Step) → Demand3 fresh step → (answers : List Answer) → HoldsBack fresh step answers → ⊥

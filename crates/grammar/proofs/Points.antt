@@ -6,6 +6,8 @@ use mathlib.Core.Bool.{Bool, true, false, true≢false, cond}
 use mathlib.Core.List.{List, [], _∷_, _++_}
 use Prim.Native.Nat.{ℕ}
 use native.Mathlib.Omega.{arith}
+use Rattle.grammar.specs.declared.StartClause.{StartClause}
+use Rattle.grammar.specs.declared.StartClause.the-variants.{Required, Optional}
 use Rattle.grammar.specs.Grammar.{Class, Point, Edge, Each, next, look, step, walk, isClass, isPoint}
 use Rattle.grammar.specs.Grammar.Class.{JOB, RESPONSE, UPLOAD, DOWNLOAD, GETINFO, ABORT, REPORT, EVENT, START, name, TIME≥, time, string, operator, semicolon}
 use Rattle.grammar.specs.Grammar.Point.{first, between, statement, jobName, jobResponse, jobFile, moveFile, moveSource, moveStart, startKind, startTime, startDate, startOperator, startValue, infoFile, abortKind, abortName, ending, done, dead}
@@ -19,49 +21,53 @@ use Rattle.grammar.specs.Productions.Job.{job}
 use Rattle.grammar.specs.Productions.Other.{upload, download, getinfo, abort-report, abort-event}
 use Rattle.grammar.specs.Productions.Any.{the-job, another}
 use Rattle.grammar.specs.Productions.Ended.{ended}
-use Rattle.grammar.proofs.Apart.{is-class, is-point}
+use Rattle.grammar.proofs.Apart.{Sole, is-class, is-point}
 
 -- the productions, from each point on, up to the ;: whatever tokens of their classes stand before them, and whatever they read as
 data Nothing : List Placed → Type 0 where
   nothing : Nothing []
 
 -- file spec, then a source, then an optional start clause
-data Move : List Placed → Type 0 where
-  move : {f t : Placed} {c : List Placed} {x : read.Source} {y : read.Start} → Is string f → Source t x → Start c y → Move (f ∷ t ∷ c)
+data Move (clause : StartClause) : List Placed → Type 0 where
+  move : {f t : Placed} {c : List Placed} {x : read.Source} {y : read.Start} → Is string f → Source t x → Start clause c y → Move clause (f ∷ t ∷ c)
 
 abbrev Before : Class → (Placed → Type 0) → Type 0
 Before c P = (t : Placed) → Is c t → P t
 
-abbrev Starts : List Placed → Type 0
-Starts k = (y : read.Start) × Start k y
+abbrev Starts : StartClause → List Placed → Type 0
+Starts clause k = (y : read.Start) × Start clause k y
 
 abbrev Jobs : List Placed → Type 0
 Jobs k = (x : Statement) × Job k x
 
-abbrev Further : List Placed → Type 0
-Further k = (x : Statement) × Other k x
+abbrev Further : StartClause → List Placed → Type 0
+Further clause k = (x : Statement) × Other clause k x
 
-abbrev Whatever : List Placed → Type 0
-Whatever k = (x : Statement) × Any k x
+abbrev Whatever : StartClause → List Placed → Type 0
+Whatever clause k = (x : Statement) × Any clause k x
+
+-- what is a clause that stands, and a statement without one, whatever the setting
+abbrev Always : (StartClause → List Placed → Type 0) → List Placed → Type 0
+Always P k = (clause : StartClause) → P clause k
 
 abbrev Body : Point → List Placed → Type 0
 Body first k = Jobs k
-Body between k = Further k
-Body statement k = Whatever k
+Body (between clause) k = Further clause k
+Body (statement clause) k = Whatever clause k
 Body jobName k = Before JOB (λ j. Jobs (j ∷ k))
 Body jobResponse k = Before JOB (λ j. Before name (λ n. Jobs (j ∷ n ∷ k)))
 Body jobFile k = Before JOB (λ j. Before name (λ n. Before RESPONSE (λ r. Jobs (j ∷ n ∷ r ∷ k))))
-Body moveFile k = Move k
-Body moveSource k = Before string (λ f. Move (f ∷ k))
-Body moveStart k = Starts k
-Body startKind k = Before START (λ s. Starts (s ∷ k))
-Body startTime k = Before START (λ s. Before TIME≥ (λ g. Starts (s ∷ g ∷ k)))
-Body startDate k = Before START (λ s. Before TIME≥ (λ g. Before time (λ t. Starts (s ∷ g ∷ t ∷ k))))
-Body startOperator k = Before START (λ s. Before name (λ n. Starts (s ∷ n ∷ k)))
-Body startValue k = Before START (λ s. Before name (λ n. Before operator (λ o. Starts (s ∷ n ∷ o ∷ k))))
-Body infoFile k = Before GETINFO (λ g. Further (g ∷ k))
-Body abortKind k = Before ABORT (λ a. Further (a ∷ k))
-Body abortName k = Before ABORT (λ a. Before REPORT (λ w. Further (a ∷ w ∷ k)) × Before EVENT (λ w. Further (a ∷ w ∷ k)))
+Body (moveFile clause) k = Move clause k
+Body (moveSource clause) k = Before string (λ f. Move clause (f ∷ k))
+Body (moveStart clause) k = Starts clause k
+Body startKind k = Before START (λ s. Always Starts (s ∷ k))
+Body startTime k = Before START (λ s. Before TIME≥ (λ g. Always Starts (s ∷ g ∷ k)))
+Body startDate k = Before START (λ s. Before TIME≥ (λ g. Before time (λ t. Always Starts (s ∷ g ∷ t ∷ k))))
+Body startOperator k = Before START (λ s. Before name (λ n. Always Starts (s ∷ n ∷ k)))
+Body startValue k = Before START (λ s. Before name (λ n. Before operator (λ o. Always Starts (s ∷ n ∷ o ∷ k))))
+Body infoFile k = Before GETINFO (λ g. Always Further (g ∷ k))
+Body abortKind k = Before ABORT (λ a. Always Further (a ∷ k))
+Body abortName k = Before ABORT (λ a. Before REPORT (λ w. Always Further (a ∷ w ∷ k)) × Before EVENT (λ w. Always Further (a ∷ w ∷ k)))
 Body ending k = Nothing k
 Body done k = ⊥
 Body dead k = ⊥
@@ -89,48 +95,55 @@ closes d t i k (closed e nothing s) = closed e (d t i) s
 ends : {D : List Placed → Type 0} → D [] → (t : Placed) → Is semicolon t → (k : List Placed) → Nothing k → Closed D (t ∷ k)
 ends d t i k nothing = closed t d i
 
-uploads : (t : Placed) → Is UPLOAD t → (k : List Placed) → Move k → Further (t ∷ k)
+uploads : {clause : StartClause} (t : Placed) → Is UPLOAD t → (k : List Placed) → Move clause k → Further clause (t ∷ k)
 uploads t i k (move f s c) = (_, upload i f s c)
 
-downloads : (t : Placed) → Is DOWNLOAD t → (k : List Placed) → Move k → Further (t ∷ k)
+downloads : {clause : StartClause} (t : Placed) → Is DOWNLOAD t → (k : List Placed) → Move clause k → Further clause (t ∷ k)
 downloads t i k (move f s c) = (_, download i f s c)
 
-any-other : {k : List Placed} → Further k → Whatever k
+any-other : {clause : StartClause} {k : List Placed} → Further clause k → Whatever clause k
 any-other (x, o) = (x, another o)
 
 edges : (q : Point) → Each (Joins q) (next q)
 edges first = (on (λ t i k b. b t i), tt)
-edges between = (on uploads, (on downloads, (on (λ t i k b. b t i), (on (λ t i k b. b t i), tt))))
-edges statement = (
+edges (between clause) = (on uploads, (on downloads, (on (λ t i k b. b t i clause), (on (λ t i k b. b t i clause), tt))))
+edges (statement clause) = (
   on (λ t i k b. (b t i .0, the-job (b t i .1))),
   (
     on (λ t i k b. any-other (uploads t i k b)),
-    (on (λ t i k b. any-other (downloads t i k b)), (on (λ t i k b. any-other (b t i)), (on (λ t i k b. any-other (b t i)), tt))),
+    (
+      on (λ t i k b. any-other (downloads t i k b)),
+      (on (λ t i k b. any-other (b t i clause)), (on (λ t i k b. any-other (b t i clause)), tt)),
+    ),
   ),
 )
 edges jobName = (on (λ n i k b j h. b j h n i), tt)
 edges jobResponse = (on (λ r i k b j h n g. b j h n g r i), tt)
 edges jobFile = (closes (λ f i j h n g r e. (_, job h g e i)), tt)
-edges moveFile = (on (λ f i k b. b f i), tt)
-edges moveSource = (
+edges (moveFile clause) = (on (λ f i k b. b f i), tt)
+edges (moveSource clause) = (
   on (λ t i k b f h. move h (active i) (b .1)),
   (on (λ t i k b f h. move h (file i) (b .1)), (on (λ t i k b f h. move h (program i) (b .1)), tt)),
 )
-edges moveStart = (on (λ s i k b. b s i), (ends (_, missing), tt))
-edges startKind = (closes (λ t i s h. (_, immediate h i)), (on (λ t i k b s h. b s h t i), (on (λ t i k b s h. b s h t i), tt)))
+edges (moveStart Required) = (on (λ s i k b. b s i Required), tt)
+edges (moveStart Optional) = (on (λ s i k b. b s i Optional), (ends (_, missing refl), tt))
+edges startKind = (closes (λ t i s h clause. (_, immediate h i)), (on (λ t i k b s h. b s h t i), (on (λ t i k b s h. b s h t i), tt)))
 edges startTime = (on (λ t i k b s h g j. b s h g j t i), tt)
-edges startDate = (closes (λ d i s h g j t l. (_, at-time-on h j l i)), (ends (λ s h g j t l. (_, at-time h j l)), tt))
+edges startDate = (closes (λ d i s h g j t l clause. (_, at-time-on h j l i)), (ends (λ s h g j t l clause. (_, at-time h j l)), tt))
 edges startOperator = (on (λ o i k b s h n j. b s h n j o i), tt)
 edges startValue = (
-  closes (λ v i s h n j o l. (_, when h j l (plain i))),
+  closes (λ v i s h n j o l clause. (_, when h j l (plain i))),
   (
-    closes (λ v i s h n j o l. (_, when h j l (digits i))),
-    (closes (λ v i s h n j o l. (_, when h j l (unreal-digits i))), (closes (λ v i s h n j o l. (_, when h j l (quoted i))), tt)),
+    closes (λ v i s h n j o l clause. (_, when h j l (digits i))),
+    (
+      closes (λ v i s h n j o l clause. (_, when h j l (unreal-digits i))),
+      (closes (λ v i s h n j o l clause. (_, when h j l (quoted i))), tt),
+    ),
   ),
 )
-edges infoFile = (closes (λ f i g h. (_, getinfo h i)), tt)
+edges infoFile = (closes (λ f i g h clause. (_, getinfo h i)), tt)
 edges abortKind = (on (λ w i k b a h. b a h .0 w i), (on (λ w i k b a h. b a h .1 w i), tt))
-edges abortName = (closes (λ n i a h. (λ w j. (_, abort-report h j i), λ w j. (_, abort-event h j i))), tt)
+edges abortName = (closes (λ n i a h. (λ w j clause. (_, abort-report h j i), λ w j clause. (_, abort-event h j i))), tt)
 edges ending = (ends nothing, tt)
 edges done = tt
 edges dead = tt
@@ -166,9 +179,9 @@ refuted true h = absurd (h refl)
 refuted false h = refl
 
 -- a point from which k leads to a living point is none from which it leads nowhere
-pub elsewhere : (q r : Point) (k : List Class) → walk r k ≡ dead → isPoint (walk q k) dead ≡ false → isPoint q r ≡ false
-elsewhere q r k d l =
-    refuted (isPoint q r) (λ e. true≢false (sym (ap (λ (p : Point). isPoint p dead) (ap (λ (p : Point). walk p k) (is-point q r e) ∙ d)) ∙ l))
+pub elsewhere : (q r : Point) → Sole r → (k : List Class) → walk r k ≡ dead → isPoint (walk q k) dead ≡ false → isPoint q r ≡ false
+elsewhere q r one k d l =
+    refuted (isPoint q r) (λ e. true≢false (sym (ap (λ (p : Point). isPoint p dead) (ap (λ (p : Point). walk p k) (is-point q r one e) ∙ d)) ∙ l))
 
 tail-at : (q : Point) → q ≡ done → Tail q []
 tail-at q e = subst (λ (p : Point). Tail p []) (sym e) nothing
@@ -188,15 +201,16 @@ whole (closed e b s) = (b .0, ended e (b .1) s)
 pub walked-job : (k : List Placed) → walk first (classes k) ≡ done → (x : Statement) × Ended Job k x
 walked-job k w = whole (tail k first w)
 
-pub walked-other : (k : List Placed) → walk between (classes k) ≡ done → (x : Statement) × Ended Other k x
-walked-other k w = whole (tail k between w)
+pub walked-other : {clause : StartClause} (k : List Placed) → walk (between clause) (classes k) ≡ done → (x : Statement) × Ended (Other clause) k x
+walked-other {clause} k w = whole (tail k (between clause) w)
 
-pub walked-any : (k : List Placed) → walk statement (classes k) ≡ done → (x : Statement) × Ended Any k x
-walked-any k w = whole (tail k statement w)
+pub walked-any : {clause : StartClause} (k : List Placed) → walk (statement clause) (classes k) ≡ done → (x : Statement) × Ended (Any clause) k x
+walked-any {clause} k w = whole (tail k (statement clause) w)
 
 -- the other way
-start-walks : {c : List Placed} {y : read.Start} → Start c y → (e : Placed) → Is semicolon e → walk moveStart (classes (c ++ (e ∷ []))) ≡ done
-start-walks missing e z = rw z
+start-walks : {clause : StartClause} {c : List Placed} {y : read.Start} → Start clause c y → (e : Placed) → Is semicolon e
+    → walk (moveStart clause) (classes (c ++ (e ∷ []))) ≡ done
+start-walks (missing m) e z = rw (m, z)
 start-walks (immediate h i) e z = rw (h, i, z)
 start-walks (at-time h i j) e z = rw (h, i, j, z)
 start-walks (at-time-on h i j k) e z = rw (h, i, j, k, z)
@@ -205,16 +219,16 @@ start-walks (when h i j (digits k)) e z = rw (h, i, j, k, z)
 start-walks (when h i j (unreal-digits k)) e z = rw (h, i, j, k, z)
 start-walks (when h i j (quoted k)) e z = rw (h, i, j, k, z)
 
-source-walks : {t : Placed} {x : read.Source} → Source t x → step moveSource (t .class) ≡ moveStart
+pub source-walks : {clause : StartClause} {t : Placed} {x : read.Source} → Source t x → step (moveSource clause) (t .class) ≡ moveStart clause
 source-walks (active i) = rw i
 source-walks (file i) = rw i
 source-walks (program i) = rw i
 
-move-walks : (f : Placed) {t : Placed} {c : List Placed} {x : read.Source} {y : read.Start} → Is string f → Source t x → Start c y → (e : Placed)
-    → Is semicolon e → walk moveFile (classes (f ∷ t ∷ (c ++ (e ∷ [])))) ≡ done
+move-walks : {clause : StartClause} (f : Placed) {t : Placed} {c : List Placed} {x : read.Source} {y : read.Start} → Is string f → Source t x
+    → Start clause c y → (e : Placed) → Is semicolon e → walk (moveFile clause) (classes (f ∷ t ∷ (c ++ (e ∷ [])))) ≡ done
 move-walks f {c = c} i s b e z = rw i (ap (λ (q : Point). walk q (classes (c ++ (e ∷ [])))) (source-walks s) ∙ start-walks b e z)
 
-pub other-walks : {k : List Placed} {x : Statement} → Ended Other k x → walk between (classes k) ≡ done
+pub other-walks : {clause : StartClause} {k : List Placed} {x : Statement} → Ended (Other clause) k x → walk (between clause) (classes k) ≡ done
 other-walks (ended e (upload {f = f} h i s c) z) = rw h (move-walks f i s c e z)
 other-walks (ended e (download {f = f} h i s c) z) = rw h (move-walks f i s c e z)
 other-walks (ended e (getinfo h i) z) = rw (h, i, z)
@@ -224,7 +238,7 @@ other-walks (ended e (abort-event h i j) z) = rw (h, i, j, z)
 pub job-walks : {k : List Placed} {x : Statement} → Ended Job k x → walk first (classes k) ≡ done
 job-walks (ended e (job h i j l) z) = rw (h, i, j, l, z)
 
-pub any-walks : {k : List Placed} {x : Statement} → Ended Any k x → walk statement (classes k) ≡ done
+pub any-walks : {clause : StartClause} {k : List Placed} {x : Statement} → Ended (Any clause) k x → walk (statement clause) (classes k) ≡ done
 any-walks (ended e (the-job (job h i j l)) z) = rw (h, i, j, l, z)
 any-walks (ended e (another (upload {f = f} h i s c)) z) = rw h (move-walks f i s c e z)
 any-walks (ended e (another (download {f = f} h i s c)) z) = rw h (move-walks f i s c e z)

@@ -4,6 +4,7 @@ use mathlib.Core.List.{List, [], _∷_, _++_}
 use Prim.Native.Nat.{ℕ}
 use native.Mathlib.Omega.{arith}
 use lib.ListN.{length}
+use Rattle.grammar.specs.declared.StartClause.{StartClause}
 use Rattle.grammar.specs.Grammar.{Class, Point, walk}
 use Rattle.grammar.specs.Grammar.Point.{first, between, done}
 use Rattle.grammar.specs.Statement.{Statement}
@@ -50,21 +51,22 @@ again q walked t a b w u us e =
 abbrev Again : (List Placed → List ℕ → List Statement → Type 0) → List Placed → List ℕ → Type 0
 Again P us os = (rs : List ℕ) × (ys : List Statement) × P us rs ys × length rs ≡ length os
 
-others-again : {b : List Placed} {os : List ℕ} {xs : List Statement} → Others b os xs → (us : List Placed) → classes us ≡ classes b → Again Others us os
-others-again none [] e = ([], [], none, refl)
-others-again none (u ∷ us) e = let z : _≡_ {A = ℕ} 0 1 = cc in absurd (omega arith)
-others-again (more w r) [] e = let z : _≡_ {A = ℕ} 0 1 = cc in absurd (omega arith)
-others-again (more {t = t} {a = a} {b = b} w r) (u ∷ us) e =
-    let (p, x, y) = again between walked-other t a b (other-walks w) u us e in
-    let (rs, ys, o, l) = others-again r (p .back) (p .back-is) in
-    (u .place ∷ rs, x ∷ ys, subst (λ (m : List Placed). Others (u ∷ m) (u .place ∷ rs) (x ∷ ys)) (sym (p .both)) (more y o), rw l)
+module _ (clause : StartClause) where
+  others-again : {b : List Placed} {os : List ℕ} {xs : List Statement} → Others clause b os xs → (us : List Placed) → classes us ≡ classes b → Again (Others clause) us os
+  others-again none [] e = ([], [], none, refl)
+  others-again none (u ∷ us) e = let z : _≡_ {A = ℕ} 0 1 = cc in absurd (omega arith)
+  others-again (more w r) [] e = let z : _≡_ {A = ℕ} 0 1 = cc in absurd (omega arith)
+  others-again (more {t = t} {a = a} {b = b} w r) (u ∷ us) e =
+      let (p, x, y) = again (between clause) walked-other t a b (other-walks w) u us e in
+      let (rs, ys, o, l) = others-again r (p .back) (p .back-is) in
+      (u .place ∷ rs, x ∷ ys, subst (λ (m : List Placed). Others clause (u ∷ m) (u .place ∷ rs) (x ∷ ys)) (sym (p .both)) (more y o), rw l)
 
-file-again : {ts : List Placed} {os : List ℕ} {xs : List Statement} → File ts os xs → (us : List Placed) → classes us ≡ classes ts → Again File us os
-file-again (file w r) [] e = let z : _≡_ {A = ℕ} 0 1 = cc in absurd (omega arith)
-file-again (file {t = t} {a = a} {b = b} w r) (u ∷ us) e =
-    let (p, x, y) = again first walked-job t a b (job-walks w) u us e in
-    let (rs, ys, o, l) = others-again r (p .back) (p .back-is) in
-    (u .place ∷ rs, x ∷ ys, subst (λ (m : List Placed). File (u ∷ m) (u .place ∷ rs) (x ∷ ys)) (sym (p .both)) (file y o), rw l)
+  file-again : {ts : List Placed} {os : List ℕ} {xs : List Statement} → File clause ts os xs → (us : List Placed) → classes us ≡ classes ts → Again (File clause) us os
+  file-again (file w r) [] e = let z : _≡_ {A = ℕ} 0 1 = cc in absurd (omega arith)
+  file-again (file {t = t} {a = a} {b = b} w r) (u ∷ us) e =
+      let (p, x, y) = again first walked-job t a b (job-walks w) u us e in
+      let (rs, ys, o, l) = others-again r (p .back) (p .back-is) in
+      (u .place ∷ rs, x ∷ ys, subst (λ (m : List Placed). File clause (u ∷ m) (u .place ∷ rs) (x ∷ ys)) (sym (p .both)) (file y o), rw l)
 
-pub relabel : (ts us : List Placed) (os : List ℕ) → classes ts ≡ classes us → Legal ts os → (rs : List ℕ) × Legal us rs
-relabel ts us os e l = let f = file-again (l .file) us (sym e) in (f .0, record { reads = f .1; file = f .2; few = rw (f .3) (l .few) })
+  pub relabel : (ts us : List Placed) (os : List ℕ) → classes ts ≡ classes us → Legal clause ts os → (rs : List ℕ) × Legal clause us rs
+  relabel ts us os e l = let f = file-again (l .file) us (sym e) in (f .0, record { reads = f .1; file = f .2; few = rw (f .3) (l .few) })

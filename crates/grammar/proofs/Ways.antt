@@ -5,7 +5,7 @@ use mathlib.Core.Bool.{false, _||_}
 use mathlib.Core.List.{List, [], _∷_}
 use Rattle.grammar.specs.Grammar.{Class, Point, Edge, next, walk, isPoint}
 use Rattle.grammar.specs.Grammar.Point.{done, dead}
-use Rattle.grammar.proofs.Apart.{is-point, at-point}
+use Rattle.grammar.proofs.Apart.{done-alone, is-point, at-point}
 
 abbrev along : List Edge → (Point → List Class) → List Class
 along [] rest = []
@@ -20,4 +20,6 @@ abbrev pub finish : Point → List Class
 finish q = way 8 q
 
 pub finishes : (q : Point) → isPoint q dead ≡ false → walk q (finish q) ≡ done
-finishes q e = is-point (walk q (finish q)) done (rw e at (at-point (λ (p : Point). isPoint p dead || isPoint (walk p (finish p)) done) refl q))
+finishes q e =
+    is-point (walk q (finish q)) done done-alone
+    (rw e at (at-point (λ (p : Point). isPoint p dead || isPoint (walk p (finish p)) done) refl refl q))

@@ -4,6 +4,8 @@ use Prim.Native.Nat.{ℕ}
 use mathlib.Core.Bool.{Bool, cond}
 use mathlib.Core.List.{List, [], _∷_}
 use lib.Dec.{eqb}
+use Rattle.grammar.specs.declared.StartClause.{StartClause}
+use Rattle.grammar.specs.declared.StartClause.the-variants.{Required, Optional}
 
 -- The classes of token. `reserved` is STOP, TIME or NEVER, which no production takes. `date` and `unrealDate` are numbers of eight bare
 -- digits, and `time` and `unrealTime` have a time's shape: the first of each is a real one.
@@ -14,11 +16,13 @@ pub data Class : Type 0 where
 -- ---- Need not be believed: the points. `proofs/Points` shows that they are the productions.
 
 -- Before a file's first statement, before a later one, before one of any kind; within a statement; after its ; and after a token
--- that may not stand.
+-- that may not stand. Those from which a start clause is still to come have the setting.
 pub data Point : Type 0 where
-  first between statement : Point
-  jobName jobResponse jobFile moveFile moveSource moveStart startKind startTime startDate startOperator startValue : Point
-  infoFile abortKind abortName ending done dead : Point
+  first : Point
+  between statement : StartClause → Point
+  jobName jobResponse jobFile : Point
+  moveFile moveSource moveStart : StartClause → Point
+  startKind startTime startDate startOperator startValue infoFile abortKind abortName ending done dead : Point
 
 -- a class that may stand, and the point after it
 pub record Edge : Type 0 where
@@ -34,26 +38,27 @@ Each P [] = Unit {0}
 Each P (e ∷ es) = P e × Each P es
 
 -- a statement that is no JOB
-abbrev pub others : List Edge
-others = on UPLOAD moveFile (on DOWNLOAD moveFile (on GETINFO infoFile (on ABORT abortKind [])))
+abbrev pub others : StartClause → List Edge
+others clause = on UPLOAD (moveFile clause) (on DOWNLOAD (moveFile clause) (on GETINFO infoFile (on ABORT abortKind [])))
 
--- "A missing clause reads as START IMMEDIATE": what ends a statement where its start clause would begin
-abbrev pub noClause : List Edge
-noClause = on semicolon done []
+-- what ends a statement where its start clause would begin: nothing where the clause must stand
+abbrev pub noClause : StartClause → List Edge
+noClause Required = []
+noClause Optional = on semicolon done []
 
 abbrev pub next : Point → List Edge
 -- the first JOB and no other
 next first = on JOB jobName []
-next between = others
-next statement = on JOB jobName others
+next (between clause) = others clause
+next (statement clause) = on JOB jobName (others clause)
 -- JOB, name, RESPONSE, file spec.
 next jobName = on name jobResponse []
 next jobResponse = on RESPONSE jobFile []
 next jobFile = on string ending []
 -- UPLOAD or DOWNLOAD, file spec, then ACTIVE or a file spec or a name, then an optional start clause.
-next moveFile = on string moveSource []
-next moveSource = on ACTIVE moveStart (on string moveStart (on name moveStart []))
-next moveStart = on START startKind noClause
+next (moveFile clause) = on string (moveSource clause) []
+next (moveSource clause) = on ACTIVE (moveStart clause) (on string (moveStart clause) (on name (moveStart clause) []))
+next (moveStart clause) = on START startKind (noClause clause)
 -- START IMMEDIATE; START TIME>= time with an optional date; START name, operator, then number or string.
 next startKind = on IMMEDIATE ending (on TIME≥ startTime (on name startOperator []))
 next startTime = on time startDate []
@@ -70,7 +75,7 @@ next ending = on semicolon done []
 next done = []
 next dead = []
 
--- classes and points by number, in the order above, to tell them apart
+-- classes and points by number, in the order above, to tell them apart; a point has one number with either setting
 abbrev pub classNo : Class → ℕ
 classNo JOB = 0
 classNo RESPONSE = 1
@@ -97,14 +102,14 @@ classNo semicolon = 21
 
 abbrev pub pointNo : Point → ℕ
 pointNo first = 0
-pointNo between = 1
-pointNo statement = 2
+pointNo (between clause) = 1
+pointNo (statement clause) = 2
 pointNo jobName = 3
 pointNo jobResponse = 4
 pointNo jobFile = 5
-pointNo moveFile = 6
-pointNo moveSource = 7
-pointNo moveStart = 8
+pointNo (moveFile clause) = 6
+pointNo (moveSource clause) = 7
+pointNo (moveStart clause) = 8
 pointNo startKind = 9
 pointNo startTime = 10
 pointNo startDate = 11

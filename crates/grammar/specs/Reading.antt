@@ -10,6 +10,7 @@ use Rattle.counts.specs.Result.Result.{refused, done as taken}
 use Rattle.counts.specs.Refusals.{noToken, unexpected, notReal, tooManyStatements, openString, brokenString, misshapen, endOfFile}
 use Rattle.token.specs.declared.Why.{Why}
 use Rattle.token.specs.declared.Why.the-variants.{Stray, OpenString, BrokenString, Misshapen}
+use Rattle.grammar.specs.declared.StartClause.{StartClause}
 use Rattle.grammar.specs.Grammar.{Point, step, isPoint, shape}
 use Rattle.grammar.specs.Grammar.Point.{first, between, done, dead}
 use Rattle.grammar.specs.Productions.{Placed}
@@ -48,21 +49,21 @@ stepWith q os t =
     (on (step q (t .class)) os)
 
 -- the point where a statement begins, after others that begin at os
-abbrev pub opening : List ℕ → Point
-opening [] = first
-opening (o ∷ os) = between
+abbrev pub opening : StartClause → List ℕ → Point
+opening clause [] = first
+opening clause (o ∷ os) = between clause
 
 -- a token after the ; of a statement, or at the start: 6 after 64 statements, else it begins one more
-abbrev pub begin : List ℕ → Placed → State
-begin os t = cond (ltb (length os) statements) (stepWith (opening os) (os ++ (t .place ∷ [])) t) (refusedAt tooManyStatements (t .place))
+abbrev pub begin : StartClause → List ℕ → Placed → State
+begin clause os t = cond (ltb (length os) statements) (stepWith (opening clause os) (os ++ (t .place ∷ [])) t) (refusedAt tooManyStatements (t .place))
 
-abbrev pub move : State → Placed → State
-move (refusedAt n p) t = refusedAt n p
-move (on q os) t = cond (isPoint q done) (begin os t) (stepWith q os t)
+abbrev pub move : StartClause → State → Placed → State
+move clause (refusedAt n p) t = refusedAt n p
+move clause (on q os) t = cond (isPoint q done) (begin clause os t) (stepWith q os t)
 
-abbrev pub moves : State → List Placed → State
-moves s [] = s
-moves s (t ∷ ts) = moves (move s t) ts
+abbrev pub moves : StartClause → State → List Placed → State
+moves clause s [] = s
+moves clause s (t ∷ ts) = moves clause (move clause s t) ts
 
 -- the end of the file is legal where no statement is open, and one is whole
 abbrev pub atEnd : Point → List ℕ → ℕ → OffsetsRead
@@ -75,5 +76,5 @@ close (on q os) (noTokenAt why p) = refused (noTokenNumber why) p
 close (on q os) (end p) = atEnd q os p
 
 -- what the tokens ts read as, with z after them
-unfoldable pub read : List Placed → Last → OffsetsRead
-read ts z = close (moves (on done []) ts) z
+unfoldable pub read : StartClause → List Placed → Last → OffsetsRead
+read clause ts z = close (moves clause (on done []) ts) z

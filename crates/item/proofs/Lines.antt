@@ -32,7 +32,7 @@ end-of (item t) = t .end
 end-of (ended p) = p
 end-of (noTokenNext why p) = p
 
-ended≢item : {p : ℕ} {t : Placed} → ended p ≡ item t → ⊥
+pub ended≢item : {p : ℕ} {t : Placed} → ended p ≡ item t → ⊥
 ended≢item e = let z : _≡_ {A = ℕ} 0 1 = cc in omega arith
 
 pub no-token≢item : {why : Why} {p : ℕ} {t : Placed} → noTokenNext why p ≡ item t → ⊥

@@ -23,6 +23,7 @@ use Rattle.grammar.specs.Grammar.{Class}
 use Rattle.grammar.specs.Grammar.Class.{JOB, RESPONSE, UPLOAD, DOWNLOAD, GETINFO, ABORT, REPORT, EVENT, START, ACTIVE, IMMEDIATE, reserved, name, TIME≥, number, date, unrealDate, time, unrealTime, string, operator, semicolon}
 use Rattle.grammar.specs.Reading.{Last}
 use Rattle.grammar.specs.Reading.Last.{end, noTokenAt}
+use Rattle.grammar.specs.declared.StartClause.{StartClause}
 use Rattle.grammar.specs.Productions.{Said, Placed, classes, Legal, Begins}
 use Rattle.grammar.proofs.Relabel.{relabel}
 use Rattle.item.specs.Tokens.{at, numberClass, timeNumber, itemOf, nextItem, Tokens}
@@ -157,13 +158,13 @@ spelled (c ∷ cs) =
     (spelled-after (32 ∷ spell c) (text cs) cs (spelled cs))
 
 -- What may stand by its tokens may stand in a file, and the other way.
-pub in-file-exactly : (a : List Placed) → Begins a ↔ InFile a
-in-file-exactly a = (to, from)
+pub in-file-exactly : (clause : StartClause) (a : List Placed) → Begins clause a ↔ InFile clause a
+in-file-exactly clause a = (to, from)
   where
-    to : Begins a → InFile a
+    to : Begins clause a → InFile clause a
     to b =
         let s : Spelled (text (classes (a ++ b .0))) 0 (classes (a ++ b .0)) = spelled (classes (a ++ b .0)) in
-        let l : (rs : List ℕ) × Legal (s .tokens) rs = relabel (a ++ b .0) (s .tokens) (b .1) (sym (s .are)) (b .2) in
+        let l : (rs : List ℕ) × Legal clause (s .tokens) rs = relabel clause (a ++ b .0) (s .tokens) (b .1) (sym (s .are)) (b .2) in
         record {
           bytes = text (classes (a ++ b .0));
           tokens = s .tokens;
@@ -175,7 +176,7 @@ in-file-exactly a = (to, from)
           goes-on = s .are;
         }
 
-    from : InFile a → Begins a
+    from : InFile clause a → Begins clause a
     from f =
-        let l : (rs : List ℕ) × Legal (a ++ f .more) rs = relabel (f .tokens) (a ++ f .more) (f .offsets) (f .goes-on) (f .legal) in
+        let l : (rs : List ℕ) × Legal clause (a ++ f .more) rs = relabel clause (f .tokens) (a ++ f .more) (f .offsets) (f .goes-on) (f .legal) in
         (f .more, l .0, l .1)

@@ -13,6 +13,7 @@ use Rattle.counts.specs.Limits.{statements}
 use Rattle.counts.specs.Refusals.{tooManyStatements}
 use Rattle.counts.specs.Result.Result.{refused, done}
 use Rattle.counts.specs.declared.Refusal.{Refusal}
+use Rattle.grammar.specs.declared.StartClause.{StartClause}
 use Rattle.grammar.specs.Reading.{endNumber, OffsetsRead}
 use Rattle.item.specs.Tokens.{Next, nextItem}
 use Rattle.item.specs.Items.{endNo, refusalNo, itemAt}
@@ -31,36 +32,36 @@ refused≢on : {r : Refusal} {n : ℕ} → RefusedAt r ≡ On n → ⊥
 refused≢on e = let z : _≡_ {A = ℕ} 0 1 = cc in omega arith
 
 -- after 64 statements no statement is read
-full-stops : (s : List ℕ) (t : Item) (n : ℕ) → stepOf s statements t ≡ On n → ⊥
+full-stops : (clause : StartClause) (s : List ℕ) (t : Item) (n : ℕ) → stepOf clause s statements t ≡ On n → ⊥
 unfolding stepOf
-full-stops s t n e = go (eqb (t .class) endNo) (ltb endNo (t .class)) e
+full-stops clause s t n e = go (eqb (t .class) endNo) (ltb endNo (t .class)) e
   where
     go : (a b : Bool) → cond a Over (cond b (refuse (refusalNo (t .class)) t) (refuse tooManyStatements t)) ≡ On n → ⊥
     go true b x = over≢on x
     go false true x = refused≢on x
     go false false x = refused≢on x
 
-ended-stops : (s : List ℕ) (k : ℕ) (t : Item) (n : ℕ) → t .class ≡ endNo → stepOf s k t ≡ On n → ⊥
+ended-stops : (clause : StartClause) (s : List ℕ) (k : ℕ) (t : Item) (n : ℕ) → t .class ≡ endNo → stepOf clause s k t ≡ On n → ⊥
 unfolding stepOf
-ended-stops s k t n c e = go (eqb k 0) (rw c at e)
+ended-stops clause s k t n c e = go (eqb k 0) (rw c at e)
   where
     go : (a : Bool) → cond a (refuse endNumber t) Over ≡ On n → ⊥
     go true x = refused≢on x
     go false x = over≢on x
 
-no-token-stops : (s : List ℕ) (k : ℕ) (t : Item) (n : ℕ) → endNo < t .class → stepOf s k t ≡ On n → ⊥
+no-token-stops : (clause : StartClause) (s : List ℕ) (k : ℕ) (t : Item) (n : ℕ) → endNo < t .class → stepOf clause s k t ≡ On n → ⊥
 unfolding stepOf
-no-token-stops s k t n l e = refused≢on (rw (ne-eqb (t .class) endNo (λ c. omega arith), lt-ltb endNo (t .class) l) at e)
+no-token-stops clause s k t n l e = refused≢on (rw (ne-eqb (t .class) endNo (λ c. omega arith), lt-ltb endNo (t .class) l) at e)
 
 -- a statement is read where a token stands
-on-token : (s : List ℕ) (k at : ℕ) (t : Item) (n : ℕ) → stepOf s k t ≡ On n → (x : Next) → nextItem s at ≡ x → Shows t x → t .place < length s
-on-token s k at t n e x i (the-end c p) = absurd (ended-stops s k t n c e)
-on-token s k at t n e x i (no-token {why = why} c p) = absurd (no-token-stops s k t n (omega (arith, no-token-numbers why .0)) e)
-on-token s k at t n e x i (a-token {u = u} c p q) = subst (λ (m : ℕ). m < length s) (sym p) (inside s at u i)
+on-token : (clause : StartClause) (s : List ℕ) (k at : ℕ) (t : Item) (n : ℕ) → stepOf clause s k t ≡ On n → (x : Next) → nextItem s at ≡ x → Shows t x → t .place < length s
+on-token clause s k at t n e x i (the-end c p) = absurd (ended-stops clause s k t n c e)
+on-token clause s k at t n e x i (no-token {why = why} c p) = absurd (no-token-stops clause s k t n (omega (arith, no-token-numbers why .0)) e)
+on-token clause s k at t n e x i (a-token {u = u} c p q) = subst (λ (m : ℕ). m < length s) (sym p) (inside s at u i)
 
-module _ (s places : List ℕ) (k at : ℕ) (e : OffsetsRead) (inv : jobLoop s (statements + 1 - k) (take k places) at ≡ e) (few : k ≤ statements)
-    (long : length places ≡ statements) (t : Item) (tok : t ≡ itemAt 0 s at) (r : Step) (is : r ≡ stepOf s k t) where
-  turn : onStep r (take k places) (t .place) (jobLoop s (statements + 1 - (k + 1))) ≡ e
+module _ (clause : StartClause) (s places : List ℕ) (k at : ℕ) (e : OffsetsRead) (inv : jobLoop clause s (statements + 1 - k) (take k places) at ≡ e) (few : k ≤ statements)
+    (long : length places ≡ statements) (t : Item) (tok : t ≡ itemAt 0 s at) (r : Step) (is : r ≡ stepOf clause s k t) where
+  turn : onStep r (take k places) (t .place) (jobLoop clause s (statements + 1 - (k + 1))) ≡ e
   unfolding jobLoop
   turn =
       let m : statements + 1 - k ≡ suc (statements + 1 - (k + 1)) = omega arith in
@@ -82,12 +83,12 @@ module _ (s places : List ℕ) (k at : ℕ) (e : OffsetsRead) (inv : jobLoop s (
       go false l =
           let h : statements ≤ k = ltb-false _ _ l in
           let q : k ≡ statements = omega arith in
-          absurd (full-stops s t n (ap (λ (j : ℕ). stepOf s j t) (sym q) ∙ sym is ∙ p))
+          absurd (full-stops clause s t n (ap (λ (j : ℕ). stepOf clause s j t) (sym q) ∙ sym is ∙ p))
 
   pub in-file : (n : ℕ) → r ≡ On n → t .place < length s
-  in-file n p = on-token s k at t n (sym is ∙ p) (nextItem s at) refl (rw tok (shows s at))
+  in-file n p = on-token clause s k at t n (sym is ∙ p) (nextItem s at) refl (rw tok (shows s at))
 
-  pub again : (n : ℕ) → r ≡ On n → jobLoop s (statements + 1 - (k + 1)) (take (k + 1) (set places k (t .place))) n ≡ e
+  pub again : (n : ℕ) → r ≡ On n → jobLoop clause s (statements + 1 - (k + 1)) (take (k + 1) (set places k (t .place))) n ≡ e
   again n p =
       let l : k < length places = omega (arith, room n p) in
       rw (add-one k, take-suc-set places k (t .place) l) (rw (p, add-one k) at turn)

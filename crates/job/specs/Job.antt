@@ -8,6 +8,7 @@ use Rattle.counts.specs.Limits.{fileBytes}
 use Rattle.counts.specs.Refusals.{fileTooLong, tooFewPlaces}
 use Rattle.counts.specs.Result.{Result, refusedAs}
 use Rattle.counts.specs.Result.Result.{refused, done}
+use Rattle.grammar.specs.declared.StartClause.{StartClause}
 use Rattle.grammar.specs.Reading.{OffsetsRead, read}
 use Rattle.item.specs.Tokens.{line}
 use Rattle.job.specs.declared.JobAnswer.{JobAnswer}
@@ -22,8 +23,8 @@ onRoom room (refused n p) = refused n p
 
 -- "A job file is tested for 1, then from the left; the leftmost place decides, and at one place 3 goes before 6, 6 before 5, 5 before 4.
 -- Then 2.": the offsets of the statements of a file that is taken, or the refusal
-unfoldable pub readJob : List ℕ → ℕ → OffsetsRead
-readJob s room = cond (leb (length s) fileBytes) (onRoom room (read (line s .tokens) (line s .last))) (refused fileTooLong 0)
+unfoldable pub readJob : StartClause → List ℕ → ℕ → OffsetsRead
+readJob clause s room = cond (leb (length s) fileBytes) (onRoom room (read clause (line s .tokens) (line s .last))) (refused fileTooLong 0)
 
 -- ---- what the call returns and leaves
 

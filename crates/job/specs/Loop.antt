@@ -8,6 +8,7 @@ use lib.ListN.{length, take}
 use Rattle.counts.specs.Limits.{statements}
 use Rattle.counts.specs.Refusals.{unexpected, tooManyStatements, refusal}
 use Rattle.counts.specs.Result.Result.{refused, done}
+use Rattle.grammar.specs.declared.StartClause.{StartClause}
 use Rattle.grammar.specs.Grammar.{classNo}
 use Rattle.grammar.specs.Grammar.Class.{JOB}
 use Rattle.grammar.specs.Reading.{OffsetsRead}
@@ -28,17 +29,17 @@ stepRead (Is x next) = On next
 stepRead (Refused r) = RefusedAt r
 
 -- "the first JOB and no other": a statement that begins with t, after k statements
-unfoldable pub stepInto : List ℕ → ℕ → Item → Step
-stepInto s k t =
+unfoldable pub stepInto : StartClause → List ℕ → ℕ → Item → Step
+stepInto clause s k t =
     cond (eqb k 0)
-    (cond (eqb (t .class) (classNo JOB)) (stepRead (statementOf 0 s t)) (refuse unexpected t))
-    (cond (eqb (t .class) (classNo JOB)) (refuse unexpected t) (stepRead (statementOf 0 s t)))
+    (cond (eqb (t .class) (classNo JOB)) (stepRead (statementOf 0 s clause t)) (refuse unexpected t))
+    (cond (eqb (t .class) (classNo JOB)) (refuse unexpected t) (stepRead (statementOf 0 s clause t)))
 
 -- what stands after k statements: the file's end, no token, a token too many, or one more statement
-unfoldable pub stepOf : List ℕ → ℕ → Item → Step
-stepOf s k t =
+unfoldable pub stepOf : StartClause → List ℕ → ℕ → Item → Step
+stepOf clause s k t =
     cond (eqb (t .class) endNo) (cond (eqb k 0) (refuse (refusalNo (t .class)) t) Over)
-    (cond (ltb endNo (t .class)) (refuse (refusalNo (t .class)) t) (cond (eqb k statements) (refuse tooManyStatements t) (stepInto s k t)))
+    (cond (ltb endNo (t .class)) (refuse (refusalNo (t .class)) t) (cond (eqb k statements) (refuse tooManyStatements t) (stepInto clause s k t)))
 
 abbrev pub onStep : Step → List ℕ → ℕ → (List ℕ → ℕ → OffsetsRead) → OffsetsRead
 onStep Over os place rest = done os
@@ -46,10 +47,10 @@ onStep (RefusedAt r) os place rest = refused (r .number) (r .place)
 onStep (On next) os place rest = rest (os ++ (place ∷ [])) next
 
 -- the rest of a file from the place at on, after statements that begin at os; `left` bounds how many tokens are looked at between statements
-unfoldable pub jobLoop : List ℕ → ℕ → List ℕ → ℕ → OffsetsRead
-jobLoop s zero os at = refused tooManyStatements at
-jobLoop s (suc left) os at =
-    onStep (stepOf s (length os) (itemAt 0 s at)) os (itemAt 0 s at .place) (jobLoop s left)
+unfoldable pub jobLoop : StartClause → List ℕ → ℕ → List ℕ → ℕ → OffsetsRead
+jobLoop clause s zero os at = refused tooManyStatements at
+jobLoop clause s (suc left) os at =
+    onStep (stepOf clause s (length os) (itemAt 0 s at)) os (itemAt 0 s at .place) (jobLoop clause s left)
 
 -- what was found: the offsets of the statements, or the refusal
 abbrev pub foundOf : StatementsFound → OffsetsRead

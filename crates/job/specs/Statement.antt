@@ -10,6 +10,7 @@ use Rattle.counts.specs.Refusals.{fileTooLong, outOfRange}
 use Rattle.counts.specs.Result.{Result, refusedAs}
 use Rattle.counts.specs.Result.Result.{refused, done}
 use Rattle.token.specs.Token.{isTextAt, contentAt}
+use Rattle.grammar.specs.declared.StartClause.{StartClause}
 use Rattle.grammar.specs.Statement as read
 use Rattle.item.specs.Tokens.{nextItem}
 use Rattle.item.specs.Tokens.Next.{ended}
@@ -35,15 +36,15 @@ onRead p (Is x next) = done (placed x p next)
 onRead p (Refused r) = refused (r .number) (r .place)
 
 -- the bytes s, which stand in the file from the place base on, as if a statement of any kind began there
-abbrev pub statementIn : ℕ → List ℕ → Result StatementAt
-statementIn base s = let t = itemAt base s base in onRead (t .place) (statementOf base s t)
+abbrev pub statementIn : StartClause → ℕ → List ℕ → Result StatementAt
+statementIn clause base s = let t = itemAt base s base in onRead (t .place) (statementOf base s clause t)
 
 -- "That call judges only the bytes from the given offset on, as if a statement of any kind began there, and stops after its `;`; 1, then 11
 -- for an offset past the file's length, then 3, 5 and 4 as below, places counted from the file's start."
-unfoldable pub readStatement : List ℕ → ℕ → Result StatementAt
-readStatement s at =
+unfoldable pub readStatement : StartClause → List ℕ → ℕ → Result StatementAt
+readStatement clause s at =
     cond (leb (length s) fileBytes)
-    (cond (leb at (length s)) (statementIn at (drop at s)) (refused outOfRange 0))
+    (cond (leb at (length s)) (statementIn clause at (drop at s)) (refused outOfRange 0))
     (refused fileTooLong 0)
 
 -- ---- what the calls return, and how statements tile a file
@@ -60,7 +61,7 @@ textAt s quote = cond (isTextAt s quote) (contentAt s quote) []
 
 -- From the place i on the file is statements that begin at os and read as ys, one after the other with only blanks between them, "each ... read
 -- on its own from the place where it begins"; and then its end.
-pub data Tiled (s : List ℕ) : ℕ → List ℕ → List read.Statement → Type 0 where
-  over : {i p : ℕ} → nextItem s i ≡ ended p → Tiled s i [] []
-  tile : {i o e : ℕ} {x : Statement} {os : List ℕ} {ys : List read.Statement} → nextItem s o ≡ nextItem s i → readStatement s o ≡ done (placed x o e)
-      → Tiled s e os ys → Tiled s i (o ∷ os) (paperStatement x ∷ ys)
+pub data Tiled (clause : StartClause) (s : List ℕ) : ℕ → List ℕ → List read.Statement → Type 0 where
+  over : {i p : ℕ} → nextItem s i ≡ ended p → Tiled clause s i [] []
+  tile : {i o e : ℕ} {x : Statement} {os : List ℕ} {ys : List read.Statement} → nextItem s o ≡ nextItem s i → readStatement clause s o ≡ done (placed x o e)
+      → Tiled clause s e os ys → Tiled clause s i (o ∷ os) (paperStatement x ∷ ys)

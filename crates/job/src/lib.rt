@@ -7,6 +7,7 @@ use counts::STATEMENTS;
 use counts::TOO_FEW_PLACES;
 use counts::TOO_MANY_STATEMENTS;
 use counts::UNEXPECTED;
+use grammar::StartClause;
 use item::END;
 use item::Item;
 use item::JOB;
@@ -83,26 +84,26 @@ fn step_read(r: StatementRead) -> Step
 }
 
 // A statement that begins with t, after k statements: the first is JOB and no other.
-fn step_into(file: &[u8], k: usize, t: Item) -> Step
+fn step_into(file: &[u8], clause: StartClause, k: usize, t: Item) -> Step
     requires { ⌜ length (now file) ≤ fileBytes ⌝ }
-    ensures { λ r. ⌜ r ≡ stepInto (now (file .entry)) k t ⌝ }
+    ensures { λ r. ⌜ r ≡ stepInto clause (now (file .entry)) k t ⌝ }
 {
     if k == 0 {
         if t.class == JOB {
-            return step_read(statement_of(file, 0, t));
+            return step_read(statement_of(file, 0, clause, t));
         }
         return refuse(UNEXPECTED, t);
     }
     if t.class == JOB {
         return refuse(UNEXPECTED, t);
     }
-    step_read(statement_of(file, 0, t))
+    step_read(statement_of(file, 0, clause, t))
 }
 
 // What stands after k statements.
-fn step_of(file: &[u8], k: usize, t: Item) -> Step
+fn step_of(file: &[u8], clause: StartClause, k: usize, t: Item) -> Step
     requires { ⌜ length (now file) ≤ fileBytes ⌝ }
-    ensures { λ r. ⌜ r ≡ stepOf (now (file .entry)) k t ⌝ }
+    ensures { λ r. ⌜ r ≡ stepOf clause (now (file .entry)) k t ⌝ }
 {
     if t.class == END {
         if k == 0 {
@@ -116,20 +117,20 @@ fn step_of(file: &[u8], k: usize, t: Item) -> Step
     if k == STATEMENTS as usize {
         return refuse(TOO_MANY_STATEMENTS, t);
     }
-    step_into(file, k, t)
+    step_into(file, clause, k, t)
 }
 
 // The statements of a file, from the left.
-fn statements_of(file: &[u8]) -> StatementsFound
+fn statements_of(file: &[u8], clause: StartClause) -> StatementsFound
     requires { ⌜ length (now file) ≤ fileBytes ⌝ }
-    ensures { λ r. ⌜ (foundOf r ≡ jobLoop (now (file .entry)) (statements + 1) [] 0) × (r .count ≤ length (r .places)) ⌝ }
+    ensures { λ r. ⌜ (foundOf r ≡ jobLoop clause (now (file .entry)) (statements + 1) [] 0) × (r .count ≤ length (r .places)) ⌝ }
 {
     let mut places = [0u32; 64];
     let mut k: usize = 0;
     let mut at: usize = 0;
     loop {
         let t = next_item(file, 0, at);
-        match step_of(file, k, t) {
+        match step_of(file, clause, k, t) {
             Step::Over => {
                 return StatementsFound {
                     places,
@@ -170,14 +171,14 @@ fn fill(table: &mut [u32], places: &[u32], n: usize)
     }
 }
 
-// A whole job file: the offsets of its statements go to the front of the lent table.
-pub fn read_job(file: &[u8], offsets: &mut [u32]) -> JobAnswer
-    ensures { λ r. ⌜ (paperJob r ≡ counted (readJob (now (file .entry)) (length (now (offsets .entry))))) × (now (offsets .exit) ≡ filled (readJob (now (file .entry)) (length (now (offsets .entry)))) (now (offsets .entry))) ⌝ }
+// A whole job file, with a start clause required or optional: the offsets of its statements go to the front of the lent table.
+pub fn read_job(file: &[u8], clause: StartClause, offsets: &mut [u32]) -> JobAnswer
+    ensures { λ r. ⌜ (paperJob r ≡ counted (readJob clause (now (file .entry)) (length (now (offsets .entry))))) × (now (offsets .exit) ≡ filled (readJob clause (now (file .entry)) (length (now (offsets .entry)))) (now (offsets .entry))) ⌝ }
 {
     if FILE_BYTES < file.len() {
         return JobAnswer::Refused(Refusal::plain(FILE_TOO_LONG));
     }
-    let found = statements_of(file);
+    let found = statements_of(file, clause);
     if found.whole {
         let count = found.count;
         if count <= offsets.len() {
@@ -206,17 +207,17 @@ fn placed(p: usize, r: StatementRead) -> StatementAnswer
 }
 
 // The statement at the front of the bytes s, which stand in the file from the place base on.
-fn statement_in(s: &[u8], base: usize) -> StatementAnswer
+fn statement_in(s: &[u8], base: usize, clause: StartClause) -> StatementAnswer
     requires { ⌜ base + length (now s) ≤ fileBytes ⌝ }
-    ensures { λ r. ⌜ paperStatementAt r ≡ statementIn base (now (s .entry)) ⌝ }
+    ensures { λ r. ⌜ paperStatementAt r ≡ statementIn clause base (now (s .entry)) ⌝ }
 {
     let t = next_item(s, base, base);
-    placed(t.place, statement_of(s, base, t))
+    placed(t.place, statement_of(s, base, clause, t))
 }
 
 // One statement, from the offset at on: the file from there is handed on as a part.
-pub fn read_statement(file: &[u8], at: usize) -> StatementAnswer
-    ensures { λ r. ⌜ paperStatementAt r ≡ readStatement (now (file .entry)) at ⌝ }
+pub fn read_statement(file: &[u8], clause: StartClause, at: usize) -> StatementAnswer
+    ensures { λ r. ⌜ paperStatementAt r ≡ readStatement clause (now (file .entry)) at ⌝ }
 {
     if FILE_BYTES < file.len() {
         return StatementAnswer::Refused(Refusal::plain(FILE_TOO_LONG));
@@ -224,7 +225,7 @@ pub fn read_statement(file: &[u8], at: usize) -> StatementAnswer
     if file.len() < at {
         return StatementAnswer::Refused(Refusal::plain(OUT_OF_RANGE));
     }
-    statement_in(&file[at..], at)
+    statement_in(&file[at..], at, clause)
 }
 
 // Whether a whole string begins at the place of its opening quote.

@@ -7,6 +7,7 @@ use lib.ListN.{length}
 use Rattle.counts.proofs.Results.{refused-not-done, same-refusal}
 use Rattle.counts.specs.Result.{Result, counted}
 use Rattle.counts.specs.Result.Result.{refused}
+use Rattle.grammar.specs.declared.StartClause.{StartClause}
 use Rattle.grammar.specs.Reading.{OffsetsRead}
 use Rattle.job.specs.Job.{readJob, filled, paperJob}
 use Rattle.job.specs.Statement.{paperStatementAt}
@@ -34,9 +35,9 @@ pub job-determined : (v : OffsetsRead) (table exit exit′ : List ℕ) (a b : Jo
 job-determined v table exit exit′ a b p q = (one-job-answer a b (p .0 ∙ sym (q .0)), p .1 ∙ sym (q .1))
 
 -- and a refused file leaves the table as it was
-pub refused-table-stays : (s table exit : List ℕ) (n p : ℕ) → readJob s (length table) ≡ refused n p → exit ≡ filled (readJob s (length table)) table
+pub refused-table-stays : (clause : StartClause) (s table exit : List ℕ) (n p : ℕ) → readJob clause s (length table) ≡ refused n p → exit ≡ filled (readJob clause s (length table)) table
     → exit ≡ table
-refused-table-stays s table exit n p e x = x ∙ ap (λ (v : OffsetsRead). filled v table) e
+refused-table-stays clause s table exit n p e x = x ∙ ap (λ (v : OffsetsRead). filled v table) e
 
 pub statement-determined : (v : Result StatementAt) (a b : StatementAnswer) → paperStatementAt a ≡ v → paperStatementAt b ≡ v → a ≡ b
 statement-determined v a b p q = one-statement-answer a b (p ∙ sym q)

@@ -17,6 +17,7 @@ use Rattle.token.specs.declared.Token.the-variants.{NoToken}
 use Rattle.token.proofs.Ahead as token
 use Rattle.token.proofs.Ahead.{Ahead}
 use Rattle.token.proofs.Ahead.Ahead.{no-token}
+use Rattle.grammar.specs.declared.StartClause.{StartClause}
 use Rattle.grammar.specs.Productions.{Placed}
 use Rattle.grammar.specs.Reading.{Last, OffsetsRead, noTokenNumber}
 use Rattle.grammar.specs.Reading.Last.{noTokenAt}
@@ -57,10 +58,10 @@ module _ (s : List ℕ) where
 
   -- ---- each refusal of a whole file, and of one statement
 
-  pub job-tells : (room n p : ℕ) → readJob s room ≡ refused n p → (n ≡ fileTooLong) ⊎ ((n ≡ tooFewPlaces) ⊎ Tells s p n)
-  job-tells room n p e = by-row (subst (λ (v : OffsetsRead). Verdict s room v) e (judged s room))
+  pub job-tells : (clause : StartClause) (room n p : ℕ) → readJob clause s room ≡ refused n p → (n ≡ fileTooLong) ⊎ ((n ≡ tooFewPlaces) ⊎ Tells s p n)
+  job-tells clause room n p e = by-row (subst (λ (v : OffsetsRead). Verdict clause s room v) e (judged clause s room))
     where
-      by-row : {n p : ℕ} → Verdict s room (refused n p) → (n ≡ fileTooLong) ⊎ ((n ≡ tooFewPlaces) ⊎ Tells s p n)
+      by-row : {n p : ℕ} → Verdict clause s room (refused n p) → (n ≡ fileTooLong) ⊎ ((n ≡ tooFewPlaces) ⊎ Tells s p n)
       by-row (too-long l) = inl refl
       by-row (no-room l y r) = inr (inl refl)
       by-row (broken l (row.three r)) = inr (inr (none-tells Stray (line-tokens s) (r .1)))
@@ -72,10 +73,10 @@ module _ (s : List ℕ) where
       by-row (broken l (row.five r)) = inr (inr (five (begins (line-tokens s) (r .2))))
       by-row (broken l (row.six r)) = inr (inr (six (begins (line-tokens s) (r .2))))
 
-  pub statement-tells : (at n p : ℕ) → readStatement s at ≡ refused n p → (n ≡ fileTooLong) ⊎ ((n ≡ outOfRange) ⊎ Tells s p n)
-  statement-tells at n p e = by-row (statement.asked s at e)
+  pub statement-tells : (clause : StartClause) (at n p : ℕ) → readStatement clause s at ≡ refused n p → (n ≡ fileTooLong) ⊎ ((n ≡ outOfRange) ⊎ Tells s p n)
+  statement-tells clause at n p e = by-row (statement.asked clause s at e)
     where
-      by-row : {n p : ℕ} → statement.Verdict s at (refused n p) → (n ≡ fileTooLong) ⊎ ((n ≡ outOfRange) ⊎ Tells s p n)
+      by-row : {n p : ℕ} → statement.Verdict clause s at (refused n p) → (n ≡ fileTooLong) ⊎ ((n ≡ outOfRange) ⊎ Tells s p n)
       by-row (statement.too-long l) = inl refl
       by-row (statement.past l m) = inr (inl refl)
       by-row (statement.not-read l m (one.three r)) = inr (inr (none-tells Stray (tokens-at s at) (r .2)))

@@ -5,3 +5,4 @@ pub mod Claims
 pub mod Statements
 pub mod Hands
 pub mod Determined
+pub mod Clauses

@@ -1,5 +1,6 @@
 // The listing program of document 01: reads a job file from standard input and prints a line for each statement, its ordinal, keyword and
-// offset. On refusal it prints REFUSED, the number and the place.
+// offset. On refusal it prints REFUSED, the number and the place. A missing start clause reads as START IMMEDIATE: it asks for P7's earlier reading.
+use grammar::StartClause;
 use io::print_decimal;
 use io::write_all;
 use job::JobAnswer;
@@ -41,7 +42,11 @@ fn print_keyword(statement: Statement) {
 
 // One line: the statement is read on its own from its offset.
 fn print_statement(file: &[u8], ordinal: usize, offset: u32) {
-    let StatementAnswer::Read(read) = job::read_statement(file, offset as usize) else {
+    let StatementAnswer::Read(read) = job::read_statement(
+        file,
+        StartClause::Optional,
+        offset as usize,
+    ) else {
         return;
     };
     print_decimal(STDOUT_FILENO, ordinal as u64);
@@ -73,7 +78,7 @@ fn print_statements(file: &[u8], offsets: &[u32], count: usize) {
 
 fn list(file: &[u8]) {
     let mut offsets = [0u32; 64];
-    match job::read_job(file, &mut offsets) {
+    match job::read_job(file, StartClause::Optional, &mut offsets) {
         JobAnswer::Taken(count) => print_statements(file, &offsets, count),
         JobAnswer::Refused(refusal) => print_refusal(refusal.number, refusal.place),
     }

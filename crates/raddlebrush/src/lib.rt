@@ -9,7 +9,7 @@ pub mod tables;
 ghost use mathlib.Core.Path.{_≡_};
 ghost use Rattle.c_answers.specs.Returned.{version};
 
-pub const VERSION: u32 = 4;
+pub const VERSION: u32 = 5;
 
 // The version that a header is held against.
 #[no_mangle]

@@ -8,6 +8,7 @@ use borrow.Author.Tests.{ne-eqb}
 use lib.Dec.{eqb}
 use Rattle.laws.proofs.Choose.{and-left, and-right, choose}
 use Rattle.counts.specs.Refusals.{unexpected, notReal, refusal}
+use Rattle.grammar.specs.declared.StartClause.{StartClause}
 use Rattle.grammar.specs.Grammar.{Class, Point, Edge, Each, next, look, step, classNo, isClass, isPoint, shape}
 use Rattle.grammar.specs.Grammar.Class.{date, unrealDate, time, unrealTime}
 use Rattle.grammar.specs.Grammar.Point.{statement, done, dead}
@@ -53,7 +54,7 @@ pick-alike q t h r k m test a (e ∷ es) ws l =
 pub on-alike : (q : Point) (t : Item) (h : Held q) (k m : (p : Point) → Held p → StatementRead) → ((p : Point) (x : Held p) → k p x ≡ m p x)
     → onItem q h t k ≡ onItem q h t m
 on-alike q t h k m a =
-    pick-alike q t h (otherwise q t) k m (λ p. true) (λ p x e. a p x) (next q) (adds q) (at-point (λ (p : Point). every (λ (e : Edge). true) (next p)) refl q)
+    pick-alike q t h (otherwise q t) k m (λ p. true) (λ p x e. a p x) (next q) (adds q) (at-point (λ (p : Point). every (λ (e : Edge). true) (next p)) refl refl q)
 
 module _ (base : ℕ) (s : List ℕ) where
   enough : (n : ℕ) (q : Point) (h : Held q) (at : ℕ) → deep n q ≡ true → readWithin base s n q h at ≡ readWithin base s (suc n) q h at
@@ -66,7 +67,7 @@ module _ (base : ℕ) (s : List ℕ) where
   pub from : (q : Point) (h : Held q) (at : ℕ)
       → readFrom base s q h at ≡ orWhole (Begun q) (isPoint q done) h at (onItem q h (itemAt base s at) (λ p k. readFrom base s p k (itemAt base s at .next)))
   unfolding readFrom readWithin
-  from q h at = enough 8 q h at (at-point (deep 8) refl q)
+  from q h at = enough 8 q h at (at-point (deep 8) refl refl q)
 
 -- a function at the point q reads the item t, and the rest from the next point on
 pub reads : (q : Point) (base : ℕ) (s : List ℕ) (h : Held q) (at : ℕ) {t : Item} {r : StatementRead} → t ≡ itemAt base s at
@@ -167,7 +168,7 @@ module _ (s : List ℕ) (q : Point) (h : Held q) (o : isPoint q done ≡ false) 
   -- a token goes along its edge; it is refused where there is none
   shown : (t : Item) (u : Placed) → Shows t (item u) → onItem q h t (rest t) ≡ onPlaced q u (readFrom 0 s (step q (u .class)) (after q (u .class) t h) (u .end))
   shown t u (a-token ec ep en) =
-      pick-edge q t h (rest t) (otherwise q t) (u .class) ec (next q) (adds q) (at-point (λ (p : Point). alive (next p)) refl q)
+      pick-edge q t h (rest t) (otherwise q t) (u .class) ec (next q) (adds q) (at-point (λ (p : Point). alive (next p)) refl refl q)
       ∙ go (isPoint (step q (u .class)) dead) refl
     where
       go : (b : Bool) → isPoint (step q (u .class)) dead ≡ b
@@ -201,6 +202,6 @@ module _ (s : List ℕ) (q : Point) (h : Held q) (o : isPoint q done ≡ false) 
           no-edge (outside (itemAt 0 s i) (noTokenNo why) c (omega (arith, no-token-numbers why .0))) ∙ rw (c, r, no-token-numbers why .1)
 
 -- a statement of any kind
-pub any-kind : (s : List ℕ) (i : ℕ) → statementOf 0 s (itemAt 0 s i) ≡ readFrom 0 s statement tt i
+pub any-kind : (clause : StartClause) (s : List ℕ) (i : ℕ) → statementOf 0 s clause (itemAt 0 s i) ≡ readFrom 0 s (statement clause) tt i
 unfolding statementOf
-any-kind s i = sym (from 0 s statement tt i)
+any-kind clause s i = sym (from 0 s (statement clause) tt i)

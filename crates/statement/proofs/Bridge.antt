@@ -5,6 +5,7 @@ use mathlib.Core.Bool.{Bool, true, false, cond}
 use mathlib.Core.List.{List, [], _∷_}
 use Rattle.counts.specs.Refusals.{unexpected, notReal, refusal}
 use Rattle.counts.specs.Result.Result.{refused}
+use Rattle.grammar.specs.declared.StartClause.{StartClause}
 use Rattle.grammar.specs.Grammar.{Point, step, isPoint, shape}
 use Rattle.grammar.specs.Grammar.Point.{done, dead}
 use Rattle.grammar.specs.Productions.{Placed}
@@ -12,7 +13,7 @@ use Rattle.token.specs.declared.Why.{Why}
 use Rattle.grammar.specs.Reading.{State, Last, moves, atEnd, close, noTokenNumber, endNumber}
 use Rattle.grammar.specs.Reading.State.{on}
 use Rattle.grammar.specs.Reading.Last.{end, noTokenAt}
-use Rattle.grammar.proofs.Apart.{is-point}
+use Rattle.grammar.proofs.Apart.{done-alone, is-point}
 use Rattle.grammar.proofs.Moves.{moves-refused}
 use Rattle.item.specs.Tokens.{nextItem, Tokens}
 use Rattle.item.specs.Tokens.Next.{item}
@@ -43,7 +44,7 @@ module _ (s : List ℕ) (R : Point → ℕ → List Placed → Last → Statemen
     where
       go : (b : Bool) → isPoint q done ≡ b → R q i ts z (readFrom 0 s q h i)
       go true e =
-          subst (λ (r : Point). (x : Held r) → R r i ts z (readFrom 0 s r x i)) (sym (is-point q done e))
+          subst (λ (r : Point). (x : Held r) → R r i ts z (readFrom 0 s r x i)) (sym (is-point q done done-alone e))
           (λ x. subst (R done i ts z) (sym (is-whole 0 s x i)) (holds .whole i ts z d x)) h
       go false e = other e
 
@@ -65,34 +66,34 @@ module _ (s : List ℕ) (R : Point → ℕ → List Placed → Last → Statemen
 
 -- What a statement's answer says of the tokens ts from there on, ended by z: where it is whole, the reader goes on with the tokens
 -- after it, and where it is refused, that is the file's answer.
-abbrev pub Reads : List ℕ → Point → List ℕ → List Placed → Last → StatementRead → Type 0
-Reads s q os ts z (Is x b) = (rest : List Placed) × Tokens s b rest z × close (moves (on q os) ts) z ≡ close (moves (on done os) rest) z
-Reads s q os ts z (Refused r) = close (moves (on q os) ts) z ≡ refused (r .number) (r .place)
+abbrev pub Reads : StartClause → List ℕ → Point → List ℕ → List Placed → Last → StatementRead → Type 0
+Reads clause s q os ts z (Is x b) = (rest : List Placed) × Tokens s b rest z × close (moves clause (on q os) ts) z ≡ close (moves clause (on done os) rest) z
+Reads clause s q os ts z (Refused r) = close (moves clause (on q os) ts) z ≡ refused (r .number) (r .place)
 
 open-end : (q : Point) (os : List ℕ) (p : ℕ) → isPoint q done ≡ false → atEnd q os p ≡ refused endNumber p
 open-end q [] p d = refl
 open-end q (o ∷ os) p d = rw d
 
 -- a token that may not stand
-barred-reads : (q : Point) → isPoint q done ≡ false → (t : Placed) (ts : List Placed) (z : Last) → isPoint (step q (t .class)) dead ≡ true → (y : Bool)
-    → isPoint (step q (shape (t .class))) dead ≡ y → (os : List ℕ) → close (moves (on q os) (t ∷ ts)) z ≡ refused (cond y unexpected notReal) (t .place)
-barred-reads q o t ts z e true f os = ap (λ (x : State). close x z) (ap (λ (x : State). moves x ts) (rw (o, e, f)) ∙ moves-refused unexpected (t .place) ts)
-barred-reads q o t ts z e false f os = ap (λ (x : State). close x z) (ap (λ (x : State). moves x ts) (rw (o, e, f)) ∙ moves-refused notReal (t .place) ts)
+barred-reads : (clause : StartClause) (q : Point) → isPoint q done ≡ false → (t : Placed) (ts : List Placed) (z : Last) → isPoint (step q (t .class)) dead ≡ true → (y : Bool)
+    → isPoint (step q (shape (t .class))) dead ≡ y → (os : List ℕ) → close (moves clause (on q os) (t ∷ ts)) z ≡ refused (cond y unexpected notReal) (t .place)
+barred-reads clause q o t ts z e true f os = ap (λ (x : State). close x z) (ap (λ (x : State). moves clause x ts) (rw (o, e, f)) ∙ moves-refused clause unexpected (t .place) ts)
+barred-reads clause q o t ts z e false f os = ap (λ (x : State). close x z) (ap (λ (x : State). moves clause x ts) (rw (o, e, f)) ∙ moves-refused clause notReal (t .place) ts)
 
-carry : (s : List ℕ) (q r : Point) (os : List ℕ) (l m : List Placed) (z : Last) → close (moves (on q os) l) z ≡ close (moves (on r os) m) z
-    → (x : StatementRead) → Reads s r os m z x → Reads s q os l z x
-carry s q r os l m z e (Is x b) y = (y .0, y .1, e ∙ y .2)
-carry s q r os l m z e (Refused n) y = e ∙ y
+carry : (clause : StartClause) (s : List ℕ) (q r : Point) (os : List ℕ) (l m : List Placed) (z : Last) → close (moves clause (on q os) l) z ≡ close (moves clause (on r os) m) z
+    → (x : StatementRead) → Reads clause s r os m z x → Reads clause s q os l z x
+carry clause s q r os l m z e (Is x b) y = (y .0, y .1, e ∙ y .2)
+carry clause s q r os l m z e (Refused n) y = e ∙ y
 
 -- a statement's rest, from the point q on
-pub rest-reads : (s : List ℕ) {i : ℕ} {ts : List Placed} {z : Last} → Tokens s i ts z → (q : Point) (h : Held q) (os : List ℕ)
-    → Reads s q os ts z (readFrom 0 s q h i)
-rest-reads s =
-    by-tokens s (λ q i ts z v. (os : List ℕ) → Reads s q os ts z v)
+pub rest-reads : (clause : StartClause) (s : List ℕ) {i : ℕ} {ts : List Placed} {z : Last} → Tokens s i ts z → (q : Point) (h : Held q) (os : List ℕ)
+    → Reads clause s q os ts z (readFrom 0 s q h i)
+rest-reads clause s =
+    by-tokens s (λ q i ts z v. (os : List ℕ) → Reads clause s q os ts z v)
     (record {
       whole = λ i ts z d x os. (ts, d, refl);
       over = λ q o i p os. open-end q os p o;
       lost = λ q o i why p os. refl;
-      barred = λ q o i t ts z e y f os. barred-reads q o t ts z e y f os;
-      along = λ q o i t ts z n e v r os. carry s q (step q (t .class)) os (t ∷ ts) ts z (ap (λ (x : State). close (moves x ts) z) (rw (o, e))) v (r os);
+      barred = λ q o i t ts z e y f os. barred-reads clause q o t ts z e y f os;
+      along = λ q o i t ts z n e v r os. carry clause s q (step q (t .class)) os (t ∷ ts) ts z (ap (λ (x : State). close (moves clause x ts) z) (rw (o, e))) v (r os);
     })

@@ -4,6 +4,7 @@ use mathlib.Core.Path.{_≡_, _∙_, ap}
 use mathlib.Core.List.{List}
 use native.Mathlib.Omega.{arith}
 use lib.ListN.{length, drop}
+use Rattle.grammar.specs.declared.StartClause.{StartClause}
 use Rattle.grammar.specs.Grammar.{Point, isPoint}
 use Rattle.grammar.specs.Grammar.Point.{statement, done}
 use Rattle.item.specs.Items.{itemAt}
@@ -30,6 +31,7 @@ module _ (o : ℕ) (s : List ℕ) (inside : o ≤ length s) where
       while-open (Begun q) (isPoint q done) h at _ _
       (λ f. on-both at l q h (readWithin o (drop o s) n) (readWithin 0 s n) (λ p x b m. within n p x b m))
 
-  pub statement-from : (at : ℕ) → o ≤ at → statementOf o (drop o s) (itemAt o (drop o s) at) ≡ statementOf 0 s (itemAt 0 s at)
+  pub statement-from : (clause : StartClause) (at : ℕ) → o ≤ at
+      → statementOf o (drop o s) clause (itemAt o (drop o s) at) ≡ statementOf 0 s clause (itemAt 0 s at)
   unfolding statementOf readFrom
-  statement-from at l = on-both at l statement tt (readFrom o (drop o s)) (readFrom 0 s) (λ p x b m. within 8 p x b m)
+  statement-from clause at l = on-both at l (statement clause) tt (readFrom o (drop o s)) (readFrom 0 s) (λ p x b m. within 8 p x b m)

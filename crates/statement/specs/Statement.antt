@@ -7,6 +7,8 @@ use mathlib.Core.List.{List, [], _∷_}
 use lib.Dec.{eqb}
 use Rattle.counts.specs.Refusals.{unexpected, notReal, refusal}
 use Rattle.token.specs.declared.Operator.{Operator}
+use Rattle.grammar.specs.declared.StartClause.{StartClause}
+use Rattle.grammar.specs.declared.StartClause.the-variants.{Required, Optional}
 use Rattle.grammar.specs.Grammar.{Class, Point, Edge, Each, noClause, next, step, classNo, isPoint}
 use Rattle.grammar.specs.Grammar.Class.{number, date, unrealDate, time, unrealTime}
 use Rattle.grammar.specs.Grammar.Point.{first, between, statement, jobName, jobResponse, jobFile, moveFile, moveSource, moveStart, startKind, startTime, startDate, startOperator, startValue, infoFile, abortKind, abortName, ending, done, dead}
@@ -70,14 +72,14 @@ transfer down file source = record { download = down; file = file; source = sour
 -- what the tokens before a point have given, of a statement that is not whole
 abbrev pub Begun : Point → Type 0
 Begun first = Unit {0}
-Begun between = Unit {0}
-Begun statement = Unit {0}
+Begun (between clause) = Unit {0}
+Begun (statement clause) = Unit {0}
 Begun jobName = Unit {0}
 Begun jobResponse = Part
 Begun jobFile = Part
-Begun moveFile = Bool
-Begun moveSource = Bool × ℕ
-Begun moveStart = Transfer
+Begun (moveFile clause) = Bool
+Begun (moveSource clause) = Bool × ℕ
+Begun (moveStart clause) = Transfer
 Begun startKind = Transfer
 Begun startTime = Transfer
 Begun startDate = Transfer × ℕ
@@ -102,27 +104,28 @@ Adds q e = Item → Held q → Held (e .to)
 abbrev valued : (Item → Operand) → Item → Transfer × Part × Operator → Statement
 valued v t (m, n, o) = transferred m (condition n o (v t))
 
--- "A missing clause reads as START IMMEDIATE"
-abbrev addsNoClause : Each (Adds moveStart) noClause
-addsNoClause = (λ t m. transferred m Immediate, tt)
+-- "A missing clause reads as START IMMEDIATE", where it may be missing
+abbrev addsNoClause : (clause : StartClause) → Each (Adds (moveStart clause)) (noClause clause)
+addsNoClause Required = tt
+addsNoClause Optional = (λ t m. transferred m Immediate, tt)
 
 -- in the order of the edges of `next`
 abbrev pub adds : (q : Point) → Each (Adds q) (next q)
 adds first = (λ t h. tt, tt)
 -- false for UPLOAD, true for DOWNLOAD
-adds between = (λ t h. false, (λ t h. true, (λ t h. tt, (λ t h. tt, tt))))
-adds statement = (λ t h. tt, (λ t h. false, (λ t h. true, (λ t h. tt, (λ t h. tt, tt)))))
+adds (between clause) = (λ t h. false, (λ t h. true, (λ t h. tt, (λ t h. tt, tt))))
+adds (statement clause) = (λ t h. tt, (λ t h. false, (λ t h. true, (λ t h. tt, (λ t h. tt, tt)))))
 -- JOB, name, RESPONSE, file spec.
 adds jobName = (λ t h. partOf t, tt)
 adds jobResponse = (λ t n. n, tt)
 adds jobFile = (λ t n. Job n (t .place), tt)
 -- UPLOAD or DOWNLOAD, file spec, then ACTIVE or a file spec or a name, then an optional start clause.
-adds moveFile = (λ t down. (down, t .place), tt)
-adds moveSource = (
+adds (moveFile clause) = (λ t down. (down, t .place), tt)
+adds (moveSource clause) = (
   λ t h. transfer (h .0) (h .1) Active,
   (λ t h. transfer (h .0) (h .1) (File (t .place)), (λ t h. transfer (h .0) (h .1) (Name (partOf t)), tt)),
 )
-adds moveStart = (λ t m. m, addsNoClause)
+adds (moveStart clause) = (λ t m. m, addsNoClause clause)
 -- START IMMEDIATE; START TIME>= time with an optional date; START name, operator, then number or string.
 adds startKind = (λ t m. transferred m Immediate, (λ t m. m, (λ t m. (m, partOf t), tt)))
 adds startTime = (λ t m. (m, t .value), tt)
@@ -169,5 +172,5 @@ module _ (base : ℕ) (s : List ℕ) where
   readFrom q h at = readWithin 8 q h at
 
   -- a statement of any kind, from its first token on
-  unfoldable pub statementOf : Item → StatementRead
-  statementOf t = onItem statement tt t (λ p k. readFrom p k (t .next))
+  unfoldable pub statementOf : StartClause → Item → StatementRead
+  statementOf clause t = onItem (statement clause) tt t (λ p k. readFrom p k (t .next))

@@ -1,6 +1,7 @@
 // The statements of a job file: one function to a point of the grammar, each from the place where its first token is looked for.
 use counts::NOT_REAL;
 use counts::Refusal;
+use grammar::StartClause;
 use item::ABORT;
 use item::ACTIVE;
 use item::DATE;
@@ -63,7 +64,7 @@ pub struct Condition {
     pub operand: Operand,
 }
 
-// A start clause is one of three; a missing one reads as the first. A time is hhmmss.
+// A start clause is one of three; a missing one, where it may be missing, reads as the first. A time is hhmmss.
 pub enum Start {
     Immediate,
     At(u32, Day),
@@ -326,35 +327,54 @@ fn start_kind(s: &[u8], base: usize, at: usize, m: Transfer) -> StatementRead
     unexpected(t)
 }
 
-// An optional start clause.
-fn move_start(s: &[u8], base: usize, at: usize, m: Transfer) -> StatementRead
+// A start clause, or the ; that stands where a missing one would begin.
+fn move_start(s: &[u8], base: usize, at: usize, clause: StartClause, m: Transfer) -> StatementRead
     requires { ⌜ Seen base (now s) at ⌝ }
-    ensures { λ r. ⌜ r ≡ readFrom base (now (s .entry)) moveStart m at ⌝ }
+    ensures { λ r. ⌜ r ≡ readFrom base (now (s .entry)) (moveStart clause) m at ⌝ }
 {
     let t = next_item(s, base, at);
     if t.class == START {
         return start_kind(s, base, t.next, m);
     }
-    if t.class == SEMICOLON {
-        return StatementRead::Is(transferred(m, Start::Immediate), t.next);
+    match clause {
+        StartClause::Required => unexpected(t),
+        StartClause::Optional => {
+            if t.class == SEMICOLON {
+                return StatementRead::Is(transferred(m, Start::Immediate), t.next);
+            }
+            unexpected(t)
+        }
     }
-    unexpected(t)
 }
 
 // UPLOAD or DOWNLOAD, file spec: ACTIVE or a file spec or a name.
-fn move_source(s: &[u8], base: usize, at: usize, download: bool, file: usize) -> StatementRead
+fn move_source(
+    s: &[u8],
+    base: usize,
+    at: usize,
+    clause: StartClause,
+    download: bool,
+    file: usize,
+) -> StatementRead
     requires { ⌜ Seen base (now s) at ⌝ }
-    ensures { λ r. ⌜ r ≡ readFrom base (now (s .entry)) moveSource (download, file) at ⌝ }
+    ensures { λ r. ⌜ r ≡ readFrom base (now (s .entry)) (moveSource clause) (download, file) at ⌝ }
 {
     let t = next_item(s, base, at);
     if t.class == ACTIVE {
-        return move_start(s, base, t.next, transfer_of(download, file, Source::Active));
+        return move_start(
+            s,
+            base,
+            t.next,
+            clause,
+            transfer_of(download, file, Source::Active),
+        );
     }
     if t.class == STRING {
         return move_start(
             s,
             base,
             t.next,
+            clause,
             transfer_of(download, file, Source::File(t.place)),
         );
     }
@@ -363,6 +383,7 @@ fn move_source(s: &[u8], base: usize, at: usize, download: bool, file: usize) ->
             s,
             base,
             t.next,
+            clause,
             transfer_of(download, file, Source::Name(part_of(t))),
         );
     }
@@ -370,13 +391,13 @@ fn move_source(s: &[u8], base: usize, at: usize, download: bool, file: usize) ->
 }
 
 // UPLOAD or DOWNLOAD: the file spec.
-fn move_file(s: &[u8], base: usize, at: usize, download: bool) -> StatementRead
+fn move_file(s: &[u8], base: usize, at: usize, clause: StartClause, download: bool) -> StatementRead
     requires { ⌜ Seen base (now s) at ⌝ }
-    ensures { λ r. ⌜ r ≡ readFrom base (now (s .entry)) moveFile download at ⌝ }
+    ensures { λ r. ⌜ r ≡ readFrom base (now (s .entry)) (moveFile clause) download at ⌝ }
 {
     let t = next_item(s, base, at);
     if t.class == STRING {
-        return move_source(s, base, t.next, download, t.place);
+        return move_source(s, base, t.next, clause, download, t.place);
     }
     unexpected(t)
 }
@@ -425,18 +446,18 @@ fn abort_kind(s: &[u8], base: usize, at: usize) -> StatementRead
 }
 
 // A statement of any kind, from its first token t on.
-pub fn statement_of(s: &[u8], base: usize, t: Item) -> StatementRead
+pub fn statement_of(s: &[u8], base: usize, clause: StartClause, t: Item) -> StatementRead
     requires { ⌜ Seen base (now s) (t .next) ⌝ }
-    ensures { λ r. ⌜ r ≡ statementOf base (now (s .entry)) t ⌝ }
+    ensures { λ r. ⌜ r ≡ statementOf base (now (s .entry)) clause t ⌝ }
 {
     if t.class == JOB {
         return job_name(s, base, t.next);
     }
     if t.class == UPLOAD {
-        return move_file(s, base, t.next, false);
+        return move_file(s, base, t.next, clause, false);
     }
     if t.class == DOWNLOAD {
-        return move_file(s, base, t.next, true);
+        return move_file(s, base, t.next, clause, true);
     }
     if t.class == GETINFO {
         return info_file(s, base, t.next);

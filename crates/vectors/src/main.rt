@@ -1,10 +1,13 @@
 // Runs the examples: each argument names a file of data/, which is read as a record where its name ends with .rec, as a report where it ends with
-// .rep, as the date of an answer that is given (.ans) or that a table stores (.tab), and else as a job file, and a line says what it read as. The
-// files are the examples of documents 01 and 02 that are not proved, the traps, the places where two readers could differ, and the job files,
-// records and reports of EUROMAP 63's worked examples with their scan damage mended.
+// .rep, as the date of an answer that is given (.ans) or that a table stores (.tab), and else as a job file, and a line says what it read as. A job
+// file's start clauses are required; where it reads as something else with optional ones, the line goes on with that. The files are the examples of
+// documents 01 and 02 that are not proved, the traps, the places where two readers could differ, and the job files, records and reports of
+// EUROMAP 63's worked examples with their scan damage mended.
 use counts::CommandNumber;
+use counts::Refusal;
 use counts::SessionNumber;
 use counts::Ticket;
+use grammar::StartClause;
 use io::print_decimal;
 use io::write_all;
 use job::JobAnswer;
@@ -57,11 +60,31 @@ fn print_refusal(number: u32, place: usize) {
     print_number(place as u64);
 }
 
+// What a file that is refused with required start clauses reads as with optional ones.
+fn run_optional(file: &[u8], required: Refusal) {
+    let mut offsets = [0u32; 64];
+    match job::read_job(file, StartClause::Optional, &mut offsets) {
+        JobAnswer::Taken(count) => {
+            write_all(STDOUT_FILENO, b" optional");
+            print_offsets(&offsets, count);
+        }
+        JobAnswer::Refused(optional) => {
+            if (optional.number != required.number) | (optional.place != required.place) {
+                write_all(STDOUT_FILENO, b" optional");
+                print_refusal(optional.number, optional.place);
+            }
+        }
+    }
+}
+
 fn run_job(file: &[u8]) {
     let mut offsets = [0u32; 64];
-    match job::read_job(file, &mut offsets) {
+    match job::read_job(file, StartClause::Required, &mut offsets) {
         JobAnswer::Taken(count) => print_offsets(&offsets, count),
-        JobAnswer::Refused(refusal) => print_refusal(refusal.number, refusal.place),
+        JobAnswer::Refused(refusal) => {
+            print_refusal(refusal.number, refusal.place);
+            run_optional(file, refusal);
+        }
     }
 }
 

@@ -10,8 +10,8 @@ plain-requires : tie.Need-plain-requires
 plain-requires c κs = search needs
 
 returns : tie.Need-returns
-returns c = let a = c .before .before .before .before .args in both (now (a .file)) (now (a .offsets)) _ _ _
-    (too-long (now (a .file)) _ (c .before .if1 .taken)) (rw (c .plain .ensures)) refl
+returns c = let a = c .before .before .before .before .args in both (a .clause) (now (a .file)) (now (a .offsets)) _ _ _
+    (too-long (a .clause) (now (a .file)) _ (c .before .if1 .taken)) (rw (c .plain .ensures)) refl
 
 statements-of-requires : tie.Need-statements-of-requires
 statements-of-requires c κs = search needs
@@ -27,7 +27,7 @@ same-length c = search needs
 
 returns-2 : tie.Need-returns-2
 returns-2 c = let a = c .before .before .before .before .before .before .before .before .before .before .before .before .args in
-    both (now (a .file)) (now (a .offsets)) _ _ _ (taken (now (a .file)) _
+    both (a .clause) (now (a .file)) (now (a .offsets)) _ _ _ (taken (a .clause) (now (a .file)) _
     (c .before .before .before .before .before .before .before .before .before .if1 .left) _
     (c .before .before .before .before .before .before .before .before .statements-of .ensures .0)
     (c .before .before .before .before .before .before .before .if2 .taken)
@@ -41,13 +41,13 @@ plain-requires-2 c κs = search needs
 
 returns-3 : tie.Need-returns-3
 returns-3 c = let a = c .before .before .before .before .before .before .before .args in
-    both (now (a .file)) (now (a .offsets)) _ _ _ (crowded (now (a .file)) _ (c .before .before .before .before .if1 .left) _
+    both (a .clause) (now (a .file)) (now (a .offsets)) _ _ _ (crowded (a .clause) (now (a .file)) _ (c .before .before .before .before .if1 .left) _
     (c .before .before .before .statements-of .ensures .0) (c .before .before .if2 .taken) (c .before .before .before .statements-of .ensures .1)
     (c .before .if3 .left)) (rw (c .plain2 .ensures)) refl
 
 returns-4 : tie.Need-returns-4
 returns-4 c = let a = c .before .before .before .before .before .before .args in
-    both (now (a .file)) (now (a .offsets)) _ _ _ (broken (now (a .file)) _ (c .before .before .before .if1 .left)
+    both (a .clause) (now (a .file)) (now (a .offsets)) _ _ _ (broken (a .clause) (now (a .file)) _ (c .before .before .before .if1 .left)
     (c .before .before .statements-of .result) (c .before .before .statements-of .ensures .0) (c .before .if2 .left)) refl refl
 
 pub read-job-spec : {M : Type 1} → statement M

@@ -12,11 +12,11 @@ use Rattle.job.proofs.statements_of.Statement.{statement}
 use Rattle.job.proofs.statements_of.Tie as tie
 
 abbrev Inv-loop : tie.InvT-loop
-Inv-loop file places₀ k₀ at₀ places k at =
-    (jobLoop file (statements + 1 - k) (take k places) at ≡ jobLoop file (statements + 1) [] 0) × (k ≤ statements) × (length places ≡ statements)
+Inv-loop file clause places₀ k₀ at₀ places k at =
+    (jobLoop clause file (statements + 1 - k) (take k places) at ≡ jobLoop clause file (statements + 1) [] 0) × (k ≤ statements) × (length places ≡ statements)
 
 abbrev μ-loop : tie.MeasureT-loop
-μ-loop file places₀ k₀ at₀ places k at = statements + 1 - k
+μ-loop file clause places₀ k₀ at₀ places k at = statements + 1 - k
 
 loop-holds : tie.Need-loop-holds Inv-loop μ-loop
 loop-holds c = search needs
@@ -32,7 +32,7 @@ enum-told c = search needs
 
 returns : tie.Need-returns Inv-loop μ-loop
 returns c = (
-  all-read _ _ _ _ _ (c .before .before .before .before .loop .inv .0) (c .before .before .before .before .loop .inv .1)
+  all-read _ _ _ _ _ _ (c .before .before .before .before .loop .inv .0) (c .before .before .before .before .loop .inv .1)
       (c .before .before .before .before .loop .inv .2) _ (c .before .before .before .next-item .ensures .is) _ (c .before .before .step-of .ensures)
       (c .enum-told .given .1),
   omega arith,
@@ -43,7 +43,7 @@ enum-known-refusal c = search needs
 
 returns-2 : tie.Need-returns-2 Inv-loop μ-loop
 returns-2 c = (
-  refused-there _ _ _ _ _ (c .before .before .before .before .before .loop .inv .0) (c .before .before .before .before .before .loop .inv .1)
+  refused-there _ _ _ _ _ _ (c .before .before .before .before .before .loop .inv .0) (c .before .before .before .before .before .loop .inv .1)
       (c .before .before .before .before .before .loop .inv .2) _ (c .before .before .before .before .next-item .ensures .is) _
       (c .before .before .before .step-of .ensures) _ (c .before .refusal .given .1),
   omega arith,
@@ -55,7 +55,7 @@ enum-known-next c = search needs
 cast-places : tie.Need-cast-places Inv-loop μ-loop
 cast-places c = omega (
   arith,
-  in-file _ _ _ _ _ (c .before .before .before .before .before .before .loop .inv .0)
+  in-file _ _ _ _ _ _ (c .before .before .before .before .before .before .loop .inv .0)
       (c .before .before .before .before .before .before .loop .inv .1) (c .before .before .before .before .before .before .loop .inv .2) _
       (c .before .before .before .before .before .next-item .ensures .is) _ (c .before .before .before .before .step-of .ensures) _
       (c .before .before .next .given .1),
@@ -64,7 +64,7 @@ cast-places c = omega (
 mul-places : tie.Need-mul-places Inv-loop μ-loop
 mul-places c = omega (
   arith,
-  room _ _ _ _ _ (c .before .before .before .before .before .before .loop .inv .0)
+  room _ _ _ _ _ _ (c .before .before .before .before .before .before .loop .inv .0)
       (c .before .before .before .before .before .before .loop .inv .1) (c .before .before .before .before .before .before .loop .inv .2) _
       (c .before .before .before .before .before .next-item .ensures .is) _ (c .before .before .before .before .step-of .ensures) _
       (c .before .before .next .given .1),
@@ -73,7 +73,7 @@ mul-places c = omega (
 array-write-places : tie.Need-array-write-places Inv-loop μ-loop
 array-write-places c = omega (
   arith,
-  room _ _ _ _ _ (c .before .before .before .before .before .before .loop .inv .0)
+  room _ _ _ _ _ _ (c .before .before .before .before .before .before .loop .inv .0)
       (c .before .before .before .before .before .before .loop .inv .1) (c .before .before .before .before .before .before .loop .inv .2) _
       (c .before .before .before .before .before .next-item .ensures .is) _ (c .before .before .before .before .step-of .ensures) _
       (c .before .before .next .given .1),
@@ -82,7 +82,7 @@ array-write-places c = omega (
 add-k : tie.Need-add-k Inv-loop μ-loop
 add-k c = omega (
   arith,
-  room _ _ _ _ _ (c .before .before .before .before .before .before .loop .inv .0)
+  room _ _ _ _ _ _ (c .before .before .before .before .before .before .loop .inv .0)
       (c .before .before .before .before .before .before .loop .inv .1) (c .before .before .before .before .before .before .loop .inv .2) _
       (c .before .before .before .before .before .next-item .ensures .is) _ (c .before .before .before .before .step-of .ensures) _
       (c .before .before .next .given .1),
@@ -91,7 +91,7 @@ add-k c = omega (
 loop-less : tie.Need-loop-less Inv-loop μ-loop
 loop-less c = omega (
   arith,
-  room _ _ _ _ _ (c .before .before .before .before .before .before .loop .inv .0)
+  room _ _ _ _ _ _ (c .before .before .before .before .before .before .loop .inv .0)
       (c .before .before .before .before .before .before .loop .inv .1) (c .before .before .before .before .before .before .loop .inv .2) _
       (c .before .before .before .before .before .next-item .ensures .is) _ (c .before .before .before .before .step-of .ensures) _
       (c .before .before .next .given .1),
@@ -99,13 +99,13 @@ loop-less c = omega (
 
 loop-again : tie.Need-loop-again Inv-loop μ-loop
 loop-again c = (
-  again _ _ _ _ _ (c .before .before .before .before .before .before .loop .inv .0)
+  again _ _ _ _ _ _ (c .before .before .before .before .before .before .loop .inv .0)
       (c .before .before .before .before .before .before .loop .inv .1) (c .before .before .before .before .before .before .loop .inv .2) _
       (c .before .before .before .before .before .next-item .ensures .is) _ (c .before .before .before .before .step-of .ensures) _
       (c .before .before .next .given .1),
   omega (
     arith,
-    room _ _ _ _ _ (c .before .before .before .before .before .before .loop .inv .0)
+    room _ _ _ _ _ _ (c .before .before .before .before .before .before .loop .inv .0)
         (c .before .before .before .before .before .before .loop .inv .1) (c .before .before .before .before .before .before .loop .inv .2) _
         (c .before .before .before .before .before .next-item .ensures .is) _ (c .before .before .before .before .step-of .ensures) _
         (c .before .before .next .given .1),

@@ -13,13 +13,13 @@ move-source-requires : tie.Need-move-source-requires
 move-source-requires c κs = search needs
 
 returns : tie.Need-returns
-returns c = reads moveFile _ _ _ _ (c .before .before .before .next-item .ensures .is) (search choose depth 9)
+returns c = reads (moveFile _) _ _ _ _ (c .before .before .before .next-item .ensures .is) (search choose depth 9)
 
 unexpected-requires : tie.Need-unexpected-requires
 unexpected-requires c κs = search needs
 
 returns-2 : tie.Need-returns-2
-returns-2 c = reads moveFile _ _ _ _ (c .before .before .before .next-item .ensures .is) (search choose depth 9)
+returns-2 c = reads (moveFile _) _ _ _ _ (c .before .before .before .next-item .ensures .is) (search choose depth 9)
 
 pub move-file-spec : {M : Type 1} → statement M
 move-file-spec =

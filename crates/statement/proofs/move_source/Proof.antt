@@ -17,7 +17,7 @@ move-start-requires c κs = search needs
 
 returns : tie.Need-returns
 returns c =
-    reads moveSource _ _ _ _ (c .before .before .before .before .next-item .ensures .is)
+    reads (moveSource _) _ _ _ _ (c .before .before .before .before .next-item .ensures .is)
     (rw (← c .before .transfer-of .ensures) (search choose depth 9))
 
 transfer-of-requires-2 : tie.Need-transfer-of-requires-2
@@ -28,7 +28,7 @@ move-start-requires-2 c κs = search needs
 
 returns-2 : tie.Need-returns-2
 returns-2 c =
-    reads moveSource _ _ _ _ (c .before .before .before .before .before .before .next-item .ensures .is)
+    reads (moveSource _) _ _ _ _ (c .before .before .before .before .before .before .next-item .ensures .is)
     (rw (← c .before .transfer-of2 .ensures) (search choose depth 9))
 
 part-of-requires : tie.Need-part-of-requires
@@ -42,14 +42,14 @@ move-start-requires-3 c κs = search needs
 
 returns-3 : tie.Need-returns-3
 returns-3 c =
-    reads moveSource _ _ _ _ (c .before .before .before .before .before .before .before .before .before .next-item .ensures .is)
+    reads (moveSource _) _ _ _ _ (c .before .before .before .before .before .before .before .before .before .next-item .ensures .is)
     (rw (← c .before .before .part-of .ensures, ← c .before .transfer-of3 .ensures) (search choose depth 9))
 
 unexpected-requires : tie.Need-unexpected-requires
 unexpected-requires c κs = search needs
 
 returns-4 : tie.Need-returns-4
-returns-4 c = reads moveSource _ _ _ _ (c .before .before .before .before .before .before .before .next-item .ensures .is) (search choose depth 9)
+returns-4 c = reads (moveSource _) _ _ _ _ (c .before .before .before .before .before .before .before .next-item .ensures .is) (search choose depth 9)
 
 pub move-source-spec : {M : Type 1} → statement M
 move-source-spec =
