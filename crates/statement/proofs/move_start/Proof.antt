@@ -1,5 +1,4 @@
 -- `statement::move_start` meets its contract.
-use Rattle.grammar.specs.declared.StartClause.the-variants.{Required, Optional}
 use Rattle.grammar.specs.Grammar.Point.{moveStart}
 use Rattle.statement.proofs.Along.{reads, along}
 use borrow.Author.Needs.{needs}
@@ -30,7 +29,7 @@ transferred-requires c κs = search needs
 returns-2 : tie.Need-returns-2
 returns-2 c =
     rw (c .before .before .before .enum-told2 .given .1)
-    (reads (moveStart Optional) _ _ _ _ (c .before .before .before .before .before .before .before .next-item .ensures .is)
+    (reads (moveStart _) _ _ _ _ (c .before .before .before .before .before .before .before .next-item .ensures .is)
     (rw (← c .transferred .ensures) (search along depth 9)))
 
 unexpected-requires-2 : tie.Need-unexpected-requires-2
@@ -39,12 +38,12 @@ unexpected-requires-2 c κs = search needs
 returns-3 : tie.Need-returns-3
 returns-3 c =
     rw (c .before .enum-told .given .1)
-    (reads (moveStart Required) _ _ _ _ (c .before .before .before .before .before .next-item .ensures .is) (search along depth 9))
+    (reads (moveStart _) _ _ _ _ (c .before .before .before .before .before .next-item .ensures .is) (search along depth 9))
 
 returns-4 : tie.Need-returns-4
 returns-4 c =
     rw (c .before .before .before .enum-told2 .given .1)
-    (reads (moveStart Optional) _ _ _ _ (c .before .before .before .before .before .before .before .next-item .ensures .is) (search along depth 9))
+    (reads (moveStart _) _ _ _ _ (c .before .before .before .before .before .before .before .next-item .ensures .is) (search along depth 9))
 
 pub move-start-spec : {M : Type 1} → statement M
 move-start-spec =
