@@ -117,8 +117,8 @@ static void show_statement(const uint8_t *file, size_t n, uint32_t offset) {
     printf("\n");
 }
 
-/* Reads a job file of the share: RB_DONE, or what it is refused with. A name that fills its place, and so may be cut, is out of range, and
- * so is one that leads elsewhere or to no file. */
+/* Reads a job file of the share: RB_DONE, or what it is refused with, an UPLOAD or DOWNLOAD without its start clause too. A name that fills
+ * its place, and so may be cut, is out of range, and so is one that leads elsewhere or to no file. */
 static rb_result run_job(const char *name) {
     static uint8_t file[RB_MAX_JOB_BYTES + 1];
     uint32_t offsets[RB_MAX_STATEMENTS];

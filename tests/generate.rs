@@ -144,11 +144,12 @@ fn target(r: &mut Random) -> Vec<u8> {
     }
 }
 
-fn clause(r: &mut Random) -> Vec<Vec<u8>> {
+/// A start clause, or now and then none where it may be missing.
+fn clause(r: &mut Random, may_lack: bool) -> Vec<Vec<u8>> {
     let start = b"START".to_vec();
     match r.below(6) {
-        0 | 1 => vec![],
-        2 => vec![start, b"IMMEDIATE".to_vec()],
+        0 | 1 if may_lack => vec![],
+        0..=2 => vec![start, b"IMMEDIATE".to_vec()],
         3 => vec![start, b"TIME>=".to_vec(), time_run(r)],
         4 => vec![start, b"TIME>=".to_vec(), time_run(r), date_run(r)],
         _ => vec![start, word(r), r.pick(&OPERATORS).to_vec(), if r.once_in(2) { number_run(r) } else { quoted(r) }],
@@ -159,13 +160,13 @@ fn job_tokens(r: &mut Random) -> Vec<Vec<u8>> {
     vec![b"JOB".to_vec(), word(r), b"RESPONSE".to_vec(), quoted(r), b";".to_vec()]
 }
 
-fn later_tokens(r: &mut Random) -> Vec<Vec<u8>> {
+fn later_tokens(r: &mut Random, may_lack: bool) -> Vec<Vec<u8>> {
     let mut tokens = match r.below(6) {
         0 => vec![b"GETINFO".to_vec(), quoted(r)],
         1 => vec![b"ABORT".to_vec(), r.pick(&[b"REPORT" as &[u8], b"EVENT"]).to_vec(), word(r)],
         _ => {
             let mut t = vec![r.pick(&[b"UPLOAD" as &[u8], b"DOWNLOAD"]).to_vec(), quoted(r), target(r)];
-            t.extend(clause(r));
+            t.extend(clause(r, may_lack));
             t
         }
     };
@@ -250,10 +251,12 @@ fn statement_count(r: &mut Random) -> usize {
     }
 }
 
+/// In every other file no clause is left out, so that either setting takes some.
 pub fn job_file(r: &mut Random) -> Vec<u8> {
     let mut tokens = job_tokens(r);
+    let may_lack = r.once_in(2);
     for _ in 1..statement_count(r) {
-        tokens.extend(later_tokens(r));
+        tokens.extend(later_tokens(r, may_lack));
     }
     for _ in 0..r.pick(&[0, 0, 0, 1, 1, 2]) {
         damage_tokens(r, &mut tokens);
@@ -285,7 +288,7 @@ pub fn long_file(r: &mut Random) -> Vec<u8> {
 
 /// Statements read on their own: one begins at the offset given, which is now and then another.
 pub fn statement_file(r: &mut Random) -> (Vec<u8>, usize) {
-    let mut tokens = if r.once_in(6) { job_tokens(r) } else { later_tokens(r) };
+    let mut tokens = if r.once_in(6) { job_tokens(r) } else { later_tokens(r, true) };
     for _ in 0..r.pick(&[0, 0, 0, 1, 1, 2]) {
         damage_tokens(r, &mut tokens);
     }

@@ -1,7 +1,7 @@
 // The job grammar of document 01, written as points with edges and as productions, and what a list of tokens reads as; and the setting that document 02's
 // P7 gives it. No function.
 
-// What a missing start clause is, as the caller asks: refused, or read as START IMMEDIATE.
+// Whether an UPLOAD or DOWNLOAD must have a start clause, as the caller asks. Required: a missing one is refused. Optional: it reads as START IMMEDIATE.
 pub enum StartClause {
     Required,
     Optional,
