@@ -152,8 +152,10 @@ pub record Demand1 : Type 0 where
       x ≡ done t → report.filled x cells ≡ put cells 0 (t .cells)
   pub report-written : (source cells : List ℕ) (many d : ℕ) (out text : List ℕ) → let x = reportWriting.written source cells many d (length out) in
       x ≡ done text → reportWriting.filled x out ≡ put out 0 text
-  pub name-written : (max n k : ℕ) (kind : Kind) (out : List ℕ) → name.written max n out ≡ done k → name.writtenBytes max n kind out ≡ put out 0 (name.nameOf n kind)
-  pub record-written : (c : Content) (out : List ℕ) (k : ℕ) → writing.written commands c out ≡ done k → writing.writtenBytes commands c out ≡ put out 0 (recordBytes c)
+  pub name-written : (max n k : ℕ) (kind : Kind) (out : List ℕ) → name.written max n out ≡ done k
+      → name.writtenBytes max n kind out ≡ put out 0 (name.nameOf n kind)
+  pub record-written : (c : Content) (out : List ℕ) (k : ℕ) → writing.written commands c out ≡ done k
+      → writing.writtenBytes commands c out ≡ put out 0 (recordBytes c)
   pub reply-written : (b : List ℕ) (p t : ℕ) (out reply : List ℕ) → collecting b p t (length out) ≡ done reply → collectedOut b p t out ≡ put out 0 reply
   -- "Answering changes one slot's entry and the in-hand mark, nothing else.": every other byte stays, but for the slot's count of answers
   pub answer-changes : (b : List ℕ) (t c : ℕ) (a : Answer) (i : ℕ) → let s = inHand b in
@@ -181,7 +183,8 @@ pub record Demand2 (clause : StartClause) : Type 0 where
   pub taken : (s : List ℕ) (room : ℕ) (os : List ℕ) → readJob clause s room ≡ done os ↔ Taken clause s room os
   -- "and its reading is the one the grammar gives": the statements that the productions give, each "read on its own from the place where it begins";
   -- there is one such list
-  pub statements : (s : List ℕ) (room : ℕ) (os : List ℕ) → readJob clause s room ≡ done os → (ys : List Statement) → File clause (line s .tokens) os ys ↔ Tiled clause s 0 os ys
+  pub statements : (s : List ℕ) (room : ℕ) (os : List ℕ) → readJob clause s room ≡ done os → (ys : List Statement)
+      → File clause (line s .tokens) os ys ↔ Tiled clause s 0 os ys
   pub one-reading : (s : List ℕ) (room : ℕ) (os : List ℕ) → readJob clause s room ≡ done os → (xs ys : List Statement) → File clause (line s .tokens) os xs
       → File clause (line s .tokens) os ys → xs ≡ ys
   -- a statement is what the tokens from the offset on, up to and including their first `;`, read as: the last row of the statement call
@@ -191,13 +194,17 @@ pub record Demand2 (clause : StartClause) : Type 0 where
   -- 5, 5 before 4. Then 2."; P2: "All places and the order stay, with 15 to 17 where 3 stood and 18 where 4 did."
   pub one : (s : List ℕ) (room p : ℕ) → readJob clause s room ≡ refused fileTooLong p ↔ (fileBytes < length s) × p ≡ 0
   pub three : (s : List ℕ) (room p : ℕ) → readJob clause s room ≡ refused noToken p ↔ (length s ≤ fileBytes) × Three clause (line s .tokens) (line s .last) p
-  pub fifteen : (s : List ℕ) (room p : ℕ) → readJob clause s room ≡ refused openString p ↔ (length s ≤ fileBytes) × Fifteen clause (line s .tokens) (line s .last) p
-  pub sixteen : (s : List ℕ) (room p : ℕ) → readJob clause s room ≡ refused brokenString p ↔ (length s ≤ fileBytes) × Sixteen clause (line s .tokens) (line s .last) p
-  pub seventeen : (s : List ℕ) (room p : ℕ) → readJob clause s room ≡ refused misshapen p ↔ (length s ≤ fileBytes) × Seventeen clause (line s .tokens) (line s .last) p
+  pub fifteen : (s : List ℕ) (room p : ℕ)
+      → readJob clause s room ≡ refused openString p ↔ (length s ≤ fileBytes) × Fifteen clause (line s .tokens) (line s .last) p
+  pub sixteen : (s : List ℕ) (room p : ℕ)
+      → readJob clause s room ≡ refused brokenString p ↔ (length s ≤ fileBytes) × Sixteen clause (line s .tokens) (line s .last) p
+  pub seventeen : (s : List ℕ) (room p : ℕ)
+      → readJob clause s room ≡ refused misshapen p ↔ (length s ≤ fileBytes) × Seventeen clause (line s .tokens) (line s .last) p
   pub six : (s : List ℕ) (room p : ℕ) → readJob clause s room ≡ refused tooManyStatements p ↔ (length s ≤ fileBytes) × Six clause (line s .tokens) p
   pub five : (s : List ℕ) (room p : ℕ) → readJob clause s room ≡ refused notReal p ↔ (length s ≤ fileBytes) × Five clause (line s .tokens) p
   pub four : (s : List ℕ) (room p : ℕ) → readJob clause s room ≡ refused unexpected p ↔ (length s ≤ fileBytes) × Four clause (line s .tokens) p
-  pub eighteen : (s : List ℕ) (room p : ℕ) → readJob clause s room ≡ refused endOfFile p ↔ (length s ≤ fileBytes) × Eighteen clause (line s .tokens) (line s .last) p
+  pub eighteen : (s : List ℕ) (room p : ℕ)
+      → readJob clause s room ≡ refused endOfFile p ↔ (length s ≤ fileBytes) × Eighteen clause (line s .tokens) (line s .last) p
   pub two : (s : List ℕ) (room p : ℕ) → readJob clause s room ≡ refused tooFewPlaces p ↔ ((os : List ℕ) × Crowded clause s room os) × p ≡ 0
   -- "the end is at the file's length"
   pub end-is-last : (s : List ℕ) (p : ℕ) → Eighteen clause (line s .tokens) (line s .last) p → p ≡ length s
@@ -285,8 +292,10 @@ pub record Hands : Type 0 where
   pub forbidden-after-255 : (c : List ℕ) → ((b : ℕ) → List·Memᴰ b c → ContentByte b) → length c ≡ 255 → (met : ℕ) → Forbidden met → (after : List ℕ)
       → tokenAt (34 ∷ (c ++ (met ∷ after))) 0 ≡ NoToken BrokenString 0
   -- the number alone tells what stands at the place of a refusal, of a whole file and of one statement
-  pub job-tells : (s : List ℕ) (clause : StartClause) (room n p : ℕ) → readJob clause s room ≡ refused n p → (n ≡ fileTooLong) ⊎ ((n ≡ tooFewPlaces) ⊎ Tells s p n)
-  pub statement-tells : (s : List ℕ) (clause : StartClause) (at n p : ℕ) → readStatement clause s at ≡ refused n p → (n ≡ fileTooLong) ⊎ ((n ≡ outOfRange) ⊎ Tells s p n)
+  pub job-tells : (s : List ℕ) (clause : StartClause) (room n p : ℕ) → readJob clause s room ≡ refused n p
+      → (n ≡ fileTooLong) ⊎ ((n ≡ tooFewPlaces) ⊎ Tells s p n)
+  pub statement-tells : (s : List ℕ) (clause : StartClause) (at n p : ℕ) → readStatement clause s at ≡ refused n p
+      → (n ≡ fileTooLong) ⊎ ((n ≡ outOfRange) ⊎ Tells s p n)
   -- 18 exactly at the file's length; 3, 15, 16 and 17 only where no token begins, and there one of them
   pub end-exactly : (s : List ℕ) (n p : ℕ) → Tells s p n → (n ≡ endOfFile) ↔ (p ≡ length s)
   pub no-token-begins : (s : List ℕ) (p : ℕ) → TokenBegins s p

@@ -1,5 +1,5 @@
--- The rows for the statement call with either setting, which "judges only the bytes from the given offset on, as if a statement of any kind began there, and stops
--- after its `;`; 1, then 11 for an offset past the file's length, then 3, 5 and 4", "with 15 to 17 where 3 stood and 18 where 4 did" (P2).
+-- The rows for the statement call, with either setting: it "judges only the bytes from the given offset on, as if a statement of any kind began there, and
+-- stops after its `;`; 1, then 11 for an offset past the file's length, then 3, 5 and 4", "with 15 to 17 where 3 stood and 18 where 4 did" (P2).
 use Prim.Native.Nat.{ℕ, _≤_, _<_}
 use mathlib.Core.List.{List}
 use lib.ListN.{length}
@@ -17,7 +17,8 @@ use Rattle.job_claims.specs.Rows.{One, OneThree, OneFifteen, OneSixteen, OneSev
 pub data StatementRow (clause : StartClause) (s : List ℕ) (at : ℕ) : Result StatementAt → Type 0 where
   one : fileBytes < length s → StatementRow clause s at (refused fileTooLong 0)
   eleven : length s ≤ fileBytes → length s < at → StatementRow clause s at (refused outOfRange 0)
-  three : {p : ℕ} → length s ≤ fileBytes → at ≤ length s → OneThree clause (lineAt s at .tokens) (lineAt s at .last) p → StatementRow clause s at (refused noToken p)
+  three : {p : ℕ} → length s ≤ fileBytes → at ≤ length s → OneThree clause (lineAt s at .tokens) (lineAt s at .last) p
+      → StatementRow clause s at (refused noToken p)
   fifteen : {p : ℕ} → length s ≤ fileBytes → at ≤ length s → OneFifteen clause (lineAt s at .tokens) (lineAt s at .last) p
       → StatementRow clause s at (refused openString p)
   sixteen : {p : ℕ} → length s ≤ fileBytes → at ≤ length s → OneSixteen clause (lineAt s at .tokens) (lineAt s at .last) p
@@ -29,4 +30,5 @@ pub data StatementRow (clause : StartClause) (s : List ℕ) (at : ℕ) : Result 
   eighteen : {p : ℕ} → length s ≤ fileBytes → at ≤ length s → OneEighteen clause (lineAt s at .tokens) (lineAt s at .last) p
       → StatementRow clause s at (refused endOfFile p)
   -- the statement that the tokens from the offset on read as, its own offset, and the place after its `;`
-  is-read : {x : Statement} {o e : ℕ} → length s ≤ fileBytes → at ≤ length s → One clause s at (paperStatement x) o e → StatementRow clause s at (done (placed x o e))
+  is-read : {x : Statement} {o e : ℕ} → length s ≤ fileBytes → at ≤ length s → One clause s at (paperStatement x) o e
+      → StatementRow clause s at (done (placed x o e))

@@ -108,7 +108,8 @@ module _ (clause : StartClause) where
   at-clause a (b, m, t, p) v =
       let (q, os, e) = begins-on clause b (shorter clause b m (subst (Begins clause) p v)) in
       let (r, rs, f) = begins-on clause a v in
-      let g : moves clause (on q os) m ≡ on r rs = ap (λ (s : State). moves clause s m) (sym e) ∙ sym (moves-append clause start b m) ∙ ap (moves clause start) (sym p) ∙ f in
+      let g : moves clause (on q os) m ≡ on r rs =
+      ap (λ (s : State). moves clause s m) (sym e) ∙ sym (moves-append clause start b m) ∙ ap (moves clause start) (sym p) ∙ f in
       let h : r ≡ moveStart clause = after-transfer m t q r os rs (stays-within b done q [] os refl e) g in
       (rs, f ∙ ap (λ (x : Point). on x rs) h)
 
@@ -240,7 +241,8 @@ clause-is-all {ts} {os} v = (λ l. none-lacks ts (legal-begins l), λ never. go 
     go never (one-lacks p f r) = absurd (never p (f .0, f .1))
 
 -- else it is refused there, whatever ends it
-pub first-is-refused : {ts : List Placed} {os : List ℕ} → Legal Optional ts os → (p : ℕ) → FirstLacks ts p → (z : Last) → Says Required ts z (refused unexpected p)
+pub first-is-refused : {ts : List Placed} {os : List ℕ} → Legal Optional ts os → (p : ℕ) → FirstLacks ts p → (z : Last)
+    → Says Required ts z (refused unexpected p)
 first-is-refused {ts} {os} v p f z = go (clauses v)
   where
     go : Clauses ts os → Says Required ts z (refused unexpected p)

@@ -65,7 +65,8 @@ module _ (clause : StartClause) where
       ∙ others-read r o (os ++ (t .place ∷ [])) (rw (snoc os (t .place) rs) l)
       ∙ rw (snoc os (t .place) rs)
 
-  pub file-read : {ts : List Placed} {os : List ℕ} {xs : List Statement} → File clause ts os xs → length os ≤ statements → moves clause (on done []) ts ≡ on done os
+  pub file-read : {ts : List Placed} {os : List ℕ} {xs : List Statement} → File clause ts os xs → length os ≤ statements
+      → moves clause (on done []) ts ≡ on done os
   file-read (file {t = t} {a = a} {b = b} {os = os} e r) l =
       moves-append clause (on done []) (t ∷ a) b
       ∙ ap (λ (s : State). moves clause s b) (one t a [] (omega arith) (job-walks e))
@@ -78,7 +79,8 @@ module _ (clause : StartClause) where
   longer : {q : Point} {t : Placed} {l : List Placed} {os : List ℕ} → Rest (step q (t .class)) l os → Rest q (t ∷ l) os
   longer {t = t} (rest a w r) = rest (t ∷ a) w r
 
-  one-later : {q : Point} {t : Placed} {l : List Placed} {os : List ℕ} → q ≡ done → Rest (step (between clause) (t .class)) l os → Rest q (t ∷ l) (t .place ∷ os)
+  one-later : {q : Point} {t : Placed} {l : List Placed} {os : List ℕ} → q ≡ done → Rest (step (between clause) (t .class)) l os
+      → Rest q (t ∷ l) (t .place ∷ os)
   one-later {t = t} e (rest a w r) = rest [] e (more (walked-other (t ∷ a) w .1) r)
 
   the-first : {t : Placed} {l : List Placed} {os : List ℕ} → Rest (step first (t .class)) l os → (xs : List Statement) × File clause (t ∷ l) (t .place ∷ os) xs

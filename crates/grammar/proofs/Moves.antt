@@ -25,7 +25,8 @@ Alive q t = isPoint (step q (t .class)) dead ≡ false
 -- what `move clause (on q os) t` is
 pub data Moved (clause : StartClause) (q : Point) (os : List ℕ) (t : Placed) : State → Type 0 where
   goes : isPoint q done ≡ false → Alive q t → Moved clause q os t (on (step q (t .class)) os)
-  begins : q ≡ done → length os < statements → Alive (opening clause os) t → Moved clause q os t (on (step (opening clause os) (t .class)) (os ++ (t .place ∷ [])))
+  begins : q ≡ done → length os < statements → Alive (opening clause os) t
+      → Moved clause q os t (on (step (opening clause os) (t .class)) (os ++ (t .place ∷ [])))
   full : q ≡ done → statements ≤ length os → Moved clause q os t (refusedAt tooManyStatements (t .place))
   unreal : (p : Point) (rs : List ℕ) → move clause (on q os) (real t) ≡ on p rs → Moved clause q os t (refusedAt notReal (t .place))
   never : (n : ℕ) × move clause (on q os) (real t) ≡ refusedAt n (t .place) → Moved clause q os t (refusedAt unexpected (t .place))
@@ -94,6 +95,7 @@ module _ (clause : StartClause) where
       rw (← a, ← b) f
   fine (t ∷ l) q p os rs f e = go (λ r ps g d. fine l r p ps rs g d) (move clause (on q os) t) (moved q os t) e
     where
-      go : ((r : Point) (ps : List ℕ) → Fine r ps → moves clause (on r ps) l ≡ on p rs → Fine p rs) → (s : State) → Moved clause q os t s → moves clause s l ≡ on p rs → Fine p rs
+      go : ((r : Point) (ps : List ℕ) → Fine r ps → moves clause (on r ps) l ≡ on p rs → Fine p rs) → (s : State) → Moved clause q os t s
+          → moves clause s l ≡ on p rs → Fine p rs
       go later (on r ps) m d = later r ps (fine-on f m) d
       go later (refusedAt n r) m d = absurd (refused≢on (sym (moves-refused n r l) ∙ d))

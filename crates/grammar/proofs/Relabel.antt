@@ -52,7 +52,8 @@ abbrev Again : (List Placed → List ℕ → List Statement → Type 0) → List
 Again P us os = (rs : List ℕ) × (ys : List Statement) × P us rs ys × length rs ≡ length os
 
 module _ (clause : StartClause) where
-  others-again : {b : List Placed} {os : List ℕ} {xs : List Statement} → Others clause b os xs → (us : List Placed) → classes us ≡ classes b → Again (Others clause) us os
+  others-again : {b : List Placed} {os : List ℕ} {xs : List Statement} → Others clause b os xs → (us : List Placed) → classes us ≡ classes b
+      → Again (Others clause) us os
   others-again none [] e = ([], [], none, refl)
   others-again none (u ∷ us) e = let z : _≡_ {A = ℕ} 0 1 = cc in absurd (omega arith)
   others-again (more w r) [] e = let z : _≡_ {A = ℕ} 0 1 = cc in absurd (omega arith)
@@ -61,7 +62,8 @@ module _ (clause : StartClause) where
       let (rs, ys, o, l) = others-again r (p .back) (p .back-is) in
       (u .place ∷ rs, x ∷ ys, subst (λ (m : List Placed). Others clause (u ∷ m) (u .place ∷ rs) (x ∷ ys)) (sym (p .both)) (more y o), rw l)
 
-  file-again : {ts : List Placed} {os : List ℕ} {xs : List Statement} → File clause ts os xs → (us : List Placed) → classes us ≡ classes ts → Again (File clause) us os
+  file-again : {ts : List Placed} {os : List ℕ} {xs : List Statement} → File clause ts os xs → (us : List Placed) → classes us ≡ classes ts
+      → Again (File clause) us os
   file-again (file w r) [] e = let z : _≡_ {A = ℕ} 0 1 = cc in absurd (omega arith)
   file-again (file {t = t} {a = a} {b = b} w r) (u ∷ us) e =
       let (p, x, y) = again first walked-job t a b (job-walks w) u us e in

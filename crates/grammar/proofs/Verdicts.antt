@@ -53,14 +53,16 @@ module _ (clause : StartClause) where
     is-full d l = all-there a os (e ∙ ap (λ (r : Point). on r os) d) l
 
     -- 01's number at t is the reader's
-    real-refused : MayStand clause a (real t) → ¬ MayStand clause a t → (s : State) → Moved clause q os t s → move clause (on q os) t ≡ s → s ≡ refusedAt notReal (t .place)
+    real-refused : MayStand clause a (real t) → ¬ MayStand clause a t → (s : State) → Moved clause q os t s → move clause (on q os) t ≡ s
+        → s ≡ refusedAt notReal (t .place)
     real-refused may not (on r ps) m w = absurd (not (stands clause a t q os e r ps w))
     real-refused may not (refusedAt n p) (full d l) w =
         absurd (stands-not clause a (real t) q os e tooManyStatements (t .place) (full-refused a (real t) (is-full d l) q os e) may)
     real-refused may not (refusedAt n p) (unreal r rs m) w = refl
     real-refused may not (refusedAt n p) (never m) w = absurd (stands-not clause a (real t) q os e (m .0) (t .place) (m .1) may)
 
-    token-refused : ¬ MayStand clause a t → ¬ MayStand clause a (real t) → ¬ Full clause a → (s : State) → Moved clause q os t s → move clause (on q os) t ≡ s → s ≡ refusedAt unexpected (t .place)
+    token-refused : ¬ MayStand clause a t → ¬ MayStand clause a (real t) → ¬ Full clause a → (s : State) → Moved clause q os t s → move clause (on q os) t ≡ s
+        → s ≡ refusedAt unexpected (t .place)
     token-refused not nor few (on r ps) m w = absurd (not (stands clause a t q os e r ps w))
     token-refused not nor few (refusedAt n p) (full d l) w = absurd (few (is-full d l))
     token-refused not nor few (refusedAt n p) (unreal r rs m) w = absurd (nor (stands clause a (real t) q os e r rs m))
@@ -91,7 +93,10 @@ module _ (clause : StartClause) where
     unfolding read
     refused-read n p w =
         ap (λ (s : State). close s z)
-        (moves-append clause start a (t ∷ b) ∙ ap (λ (s : State). moves clause s (t ∷ b)) e ∙ ap (λ (s : State). moves clause s b) w ∙ moves-refused clause n p b)
+        (moves-append clause start a (t ∷ b)
+        ∙ ap (λ (s : State). moves clause s (t ∷ b)) e
+        ∙ ap (λ (s : State). moves clause s b) w
+        ∙ moves-refused clause n p b)
 
   -- a legal file has a statement
   pub has-one : {ts : List Placed} {os : List ℕ} {xs : List Statement} → File clause ts os xs → (o : ℕ) × (rs : List ℕ) × os ≡ o ∷ rs
@@ -124,13 +129,15 @@ module _ (clause : StartClause) where
   none-row Misshapen p b = seventeen (b, refl)
 
   -- the tokens ts after the tokens a
-  says : (ts : List Placed) (z : Last) (a : List Placed) (q : Point) (os : List ℕ) → moves clause start a ≡ on q os → Says clause (a ++ ts) z (close (moves clause (on q os) ts) z)
+  says : (ts : List Placed) (z : Last) (a : List Placed) (q : Point) (os : List ℕ) → moves clause start a ≡ on q os
+      → Says clause (a ++ ts) z (close (moves clause (on q os) ts) z)
   says [] (noTokenAt why p) a q os e = rw (append-nil a) (none-row why p (on-begins clause a q os e))
   says [] (end p) a q [] e = rw (append-nil a) (eighteen (on-begins clause a q [] e, refl, not-empty a q e))
   says [] (end p) a q (o ∷ os) e = rw (append-nil a) (ended a p q o os e (isPoint q done) refl)
   says (t ∷ ts) z a q os e = go (λ r ps d. says ts z (a ++ (t ∷ [])) r ps d) (move clause (on q os) t) (moved clause q os t) refl
     where
-      go : ((r : Point) (ps : List ℕ) → moves clause start (a ++ (t ∷ [])) ≡ on r ps → Says clause ((a ++ (t ∷ [])) ++ ts) z (close (moves clause (on r ps) ts) z))
+      go : ((r : Point) (ps : List ℕ) → moves clause start (a ++ (t ∷ [])) ≡ on r ps
+          → Says clause ((a ++ (t ∷ [])) ++ ts) z (close (moves clause (on r ps) ts) z))
           → (s : State) → Moved clause q os t s → move clause (on q os) t ≡ s → Says clause (a ++ (t ∷ ts)) z (close (moves clause s ts) z)
       go later (on r ps) m w = rw (append-assoc a (t ∷ []) ts) at (later r ps (one-more clause a t q os e ∙ w))
       go later (refusedAt n p) m w = rw (moves-refused clause n p ts) (row-of a t ts z q os e n p m w)
@@ -186,7 +193,8 @@ module _ (clause : StartClause) where
     five-is : Five clause ts p → read clause ts z ≡ refused notReal p
     five-is (a, t, h, may, not) =
         let s : (q : Point) × (os : List ℕ) × moves clause start a ≡ on q os = begins-on clause a (shorter clause a (real t ∷ []) may) in
-        refused-is a t h (s .0) (s .1) (s .2) notReal (real-refused a t (s .0) (s .1) (s .2) may not (move clause (on (s .0) (s .1)) t) (moved clause (s .0) (s .1) t) refl)
+        refused-is a t h (s .0) (s .1) (s .2) notReal
+        (real-refused a t (s .0) (s .1) (s .2) may not (move clause (on (s .0) (s .1)) t) (moved clause (s .0) (s .1) t) refl)
 
     six-is : Six clause ts p → read clause ts z ≡ refused tooManyStatements p
     six-is (a, t, h, f) =

@@ -20,7 +20,8 @@ use Rattle.job.specs.declared.StatementsFound.{StatementsFound}
 use Rattle.job.proofs.Bridge.{by-statements}
 
 -- the answer and the table at exit, of an answer v
-pub both : (clause : StartClause) (s table exit : List ℕ) (v : OffsetsRead) (r : Result ℕ) → readJob clause s (length table) ≡ v → r ≡ counted v → exit ≡ filled v table
+pub both : (clause : StartClause) (s table exit : List ℕ) (v : OffsetsRead) (r : Result ℕ) → readJob clause s (length table) ≡ v → r ≡ counted v
+    → exit ≡ filled v table
     → (r ≡ counted (readJob clause s (length table))) × (exit ≡ filled (readJob clause s (length table)) table)
 both clause s table exit v r e a b = rw e (a, b)
 
@@ -28,7 +29,8 @@ pub too-long : (clause : StartClause) (s : List ℕ) (room : ℕ) → fileBytes 
 unfolding readJob
 too-long clause s room l = rw (lt-leb _ _ l)
 
-module _ (clause : StartClause) (s : List ℕ) (room : ℕ) (short : length s ≤ fileBytes) (f : StatementsFound) (is : foundOf f ≡ jobLoop clause s (statements + 1) [] 0) where
+module _ (clause : StartClause) (s : List ℕ) (room : ℕ) (short : length s ≤ fileBytes) (f : StatementsFound)
+    (is : foundOf f ≡ jobLoop clause s (statements + 1) [] 0) where
   reads : readJob clause s room ≡ onRoom room (foundOf f)
   unfolding readJob
   reads = rw (le-leb _ _ short) (ap (onRoom room) (sym (by-statements clause s (line-tokens s)) ∙ sym is))

@@ -63,7 +63,8 @@ opening-is clause os rs t = go os (isClass (t .class) JOB) refl
     go (o ∷ os) false e = rw (e, not-job (t .class) e)
 
 -- what stands between statements, by the tests
-tested : (clause : StartClause) (s : List ℕ) (k : ℕ) (t : Item) (a b f z : Bool) → eqb (t .class) endNo ≡ a → ltb endNo (t .class) ≡ b → eqb k statements ≡ f → eqb k 0 ≡ z
+tested : (clause : StartClause) (s : List ℕ) (k : ℕ) (t : Item) (a b f z : Bool) → eqb (t .class) endNo ≡ a → ltb endNo (t .class) ≡ b → eqb k statements ≡ f
+    → eqb k 0 ≡ z
     → stepOf clause s k t ≡ cond a (cond z (refuse (refusalNo (t .class)) t) Over)
     (cond b (refuse (refusalNo (t .class)) t) (cond f (refuse tooManyStatements t) (stepInto clause s k t)))
 unfolding stepOf
@@ -147,9 +148,11 @@ module _ (clause : StartClause) (s : List ℕ) where
     either (o ∷ rs) false x e = e
 
     goes-on : (i : ℕ) → Tokens s i (t ∷ ts) z
-        → goes (byJob os (isClass (t .class) JOB) (stepRead (readFrom 0 s (statement clause) tt i)) (RefusedAt (refusal unexpected (t .place)))) ≡ so (move clause (on done os) t)
+        → goes (byJob os (isClass (t .class) JOB) (stepRead (readFrom 0 s (statement clause) tt i)) (RefusedAt (refusal unexpected (t .place))))
+        ≡ so (move clause (on done os) t)
     goes-on i d =
-        either os (isClass (t .class) JOB) _ (any-goes (readFrom 0 s (statement clause) tt i) (rest-reads clause s d (statement clause) tt (os ++ (t .place ∷ []))))
+        either os (isClass (t .class) JOB) _
+        (any-goes (readFrom 0 s (statement clause) tt i) (rest-reads clause s d (statement clause) tt (os ++ (t .place ∷ []))))
         ∙ ap so (sym (rw (lt-ltb (length os) statements (omega arith)) (opening-is clause os (os ++ (t .place ∷ [])) t)))
 
   count : (os : List ℕ) (p left : ℕ) → length os + suc left ≡ statements → length (os ++ (p ∷ [])) + left ≡ statements
@@ -163,7 +166,8 @@ module _ (clause : StartClause) (s : List ℕ) where
   loop zero {i = i} (no-token {p = p} {why = why} e) os n = at-no-token (itemAt 0 s i) why p os (jobLoop clause s zero) (rw e at (shows s i))
   loop zero {i = i} {z = z} (then {t = t} {ts = ts} e r) os n =
       full (itemAt 0 s i) t os (jobLoop clause s zero) (omega arith) (rw e at (shows s i))
-      ∙ sym (ap (λ (x : State). close x z) (ap (λ (x : State). moves clause x ts) (too-many os t (omega arith)) ∙ moves-refused clause tooManyStatements (t .place) ts))
+      ∙ sym (ap (λ (x : State). close x z)
+      (ap (λ (x : State). moves clause x ts) (too-many os t (omega arith)) ∙ moves-refused clause tooManyStatements (t .place) ts))
   loop (suc left) {i = i} (at-end {p = p} e) os n = at-the-end (itemAt 0 s i) p os (jobLoop clause s (suc left)) (rw e at (shows s i))
   loop (suc left) {i = i} (no-token {p = p} {why = why} e) os n = at-no-token (itemAt 0 s i) why p os (jobLoop clause s (suc left)) (rw e at (shows s i))
   loop (suc left) {i = i} {z = z} (then {t = t} {ts = ts} e r) os n =

@@ -54,13 +54,15 @@ unfolding stepOf
 no-token-stops clause s k t n l e = refused≢on (rw (ne-eqb (t .class) endNo (λ c. omega arith), lt-ltb endNo (t .class) l) at e)
 
 -- a statement is read where a token stands
-on-token : (clause : StartClause) (s : List ℕ) (k at : ℕ) (t : Item) (n : ℕ) → stepOf clause s k t ≡ On n → (x : Next) → nextItem s at ≡ x → Shows t x → t .place < length s
+on-token : (clause : StartClause) (s : List ℕ) (k at : ℕ) (t : Item) (n : ℕ) → stepOf clause s k t ≡ On n → (x : Next) → nextItem s at ≡ x → Shows t x
+    → t .place < length s
 on-token clause s k at t n e x i (the-end c p) = absurd (ended-stops clause s k t n c e)
 on-token clause s k at t n e x i (no-token {why = why} c p) = absurd (no-token-stops clause s k t n (omega (arith, no-token-numbers why .0)) e)
 on-token clause s k at t n e x i (a-token {u = u} c p q) = subst (λ (m : ℕ). m < length s) (sym p) (inside s at u i)
 
-module _ (clause : StartClause) (s places : List ℕ) (k at : ℕ) (e : OffsetsRead) (inv : jobLoop clause s (statements + 1 - k) (take k places) at ≡ e) (few : k ≤ statements)
-    (long : length places ≡ statements) (t : Item) (tok : t ≡ itemAt 0 s at) (r : Step) (is : r ≡ stepOf clause s k t) where
+module _ (clause : StartClause) (s places : List ℕ) (k at : ℕ) (e : OffsetsRead)
+    (inv : jobLoop clause s (statements + 1 - k) (take k places) at ≡ e) (few : k ≤ statements) (long : length places ≡ statements)
+    (t : Item) (tok : t ≡ itemAt 0 s at) (r : Step) (is : r ≡ stepOf clause s k t) where
   turn : onStep r (take k places) (t .place) (jobLoop clause s (statements + 1 - (k + 1))) ≡ e
   unfolding jobLoop
   turn =

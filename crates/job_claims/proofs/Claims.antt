@@ -44,7 +44,8 @@ module _ (clause : StartClause) (s : List ℕ) (room : ℕ) where
   unfolding readJob
   judged = go (leb (length s) fileBytes) refl
     where
-      go : (b : Bool) → leb (length s) fileBytes ≡ b → Verdict clause s room (cond b (onRoom room (read clause (line s .tokens) (line s .last))) (refused fileTooLong 0))
+      go : (b : Bool) → leb (length s) fileBytes ≡ b
+          → Verdict clause s room (cond b (onRoom room (read clause (line s .tokens) (line s .last))) (refused fileTooLong 0))
       go true e = judged-room (leb-true _ _ e) (read clause (line s .tokens) (line s .last)) (reader-says clause (line s .tokens) (line s .last))
       go false e = too-long (leb-false _ _ e)
 
@@ -148,7 +149,8 @@ module _ (clause : StartClause) (s : List ℕ) (room : ℕ) where
       from w = subst (File clause (line s .tokens) os) (one-tiling (to (t .whole .2 .file)) w) (t .whole .2 .file)
 
   -- There is one such list.
-  pub one-reading : (os : List ℕ) → readJob clause s room ≡ done os → (xs ys : List Statement) → File clause (line s .tokens) os xs → File clause (line s .tokens) os ys → xs ≡ ys
+  pub one-reading : (os : List ℕ) → readJob clause s room ≡ done os → (xs ys : List Statement) → File clause (line s .tokens) os xs
+      → File clause (line s .tokens) os ys → xs ≡ ys
   one-reading os e xs ys f g = one-tiling (statements-exactly os e xs .0 f) (statements-exactly os e ys .0 g)
 
   -- The place of a refusal for the end of the file is the file's length.

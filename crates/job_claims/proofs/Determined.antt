@@ -35,7 +35,8 @@ pub job-determined : (v : OffsetsRead) (table exit exit′ : List ℕ) (a b : Jo
 job-determined v table exit exit′ a b p q = (one-job-answer a b (p .0 ∙ sym (q .0)), p .1 ∙ sym (q .1))
 
 -- and a refused file leaves the table as it was
-pub refused-table-stays : (clause : StartClause) (s table exit : List ℕ) (n p : ℕ) → readJob clause s (length table) ≡ refused n p → exit ≡ filled (readJob clause s (length table)) table
+pub refused-table-stays : (clause : StartClause) (s table exit : List ℕ) (n p : ℕ) → readJob clause s (length table) ≡ refused n p
+    → exit ≡ filled (readJob clause s (length table)) table
     → exit ≡ table
 refused-table-stays clause s table exit n p e x = x ∙ ap (λ (v : OffsetsRead). filled v table) e
 

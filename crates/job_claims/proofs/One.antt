@@ -155,7 +155,8 @@ module _ (clause : StartClause) where
           let k = so-far f (ap (λ (q : Point). isPoint q dead) (any-walks (w .1))) in
           k .1 ∙ ends-whole (point a) (k .0) e (any-walks (w .1))
 
-      no-token-is : (why : Why) (p : ℕ) → Opens clause ts × ¬ WholeOne clause ts × z ≡ noTokenAt why p → ends (statement clause) tt at ≡ refused (noTokenNumber why) p
+      no-token-is : (why : Why) (p : ℕ) → Opens clause ts × ¬ WholeOne clause ts × z ≡ noTokenAt why p
+          → ends (statement clause) tt at ≡ refused (noTokenNumber why) p
       no-token-is why p (o, n, e) =
           let c : Cut s at ts [] (noTokenAt why p) = cut s ts (subst (Tokens s at ts) e d) (sym (append-nil ts)) in
           let k = so-far (c .first) (alive ts o) in
@@ -213,7 +214,8 @@ module _ (clause : StartClause) where
           with-real : {b : Bool} → isPoint (step (point a) (shape (t .class))) dead ≡ b → isPoint (point (a ++ (real t ∷ []))) dead ≡ b
           with-real e = ap (λ (r : Point). isPoint r dead) (point-append a (real t)) ∙ e
 
-          go : (y : Bool) → isPoint (step (point a) (shape (t .class))) dead ≡ y → Judged s at (a ++ (t ∷ us)) z (refused (cond y unexpected notReal) (t .place))
+          go : (y : Bool) → isPoint (step (point a) (shape (t .class))) dead ≡ y
+              → Judged s at (a ++ (t ∷ us)) z (refused (cond y unexpected notReal) (t .place))
           go true e = four (a, t, here-stands, opens a l, not-whole a n, not-so, not-opens (a ++ (real t ∷ [])) (with-real e))
           go false e = five (a, t, here-stands, opens (a ++ (real t ∷ [])) (with-real e), not-so)
 

@@ -125,7 +125,8 @@ module _ (clause : StartClause) (s : List ℕ) (at : ℕ) where
           subst₂ (λ (v : read.Statement) (k : ℕ). One clause s at v k e) (sym (r .says) ∙ ap (λ (v : StatementAt). paperStatement (v .statement)) q)
           (ap (λ (v : StatementAt). v .offset) q) w
 
-      from : Verdict (done e) → readStatement clause s at ≡ done (placed x o e) → (length s ≤ fileBytes) × (at ≤ length s) × One clause s at (paperStatement x) o e
+      from : Verdict (done e) → readStatement clause s at ≡ done (placed x o e)
+          → (length s ≤ fileBytes) × (at ≤ length s) × One clause s at (paperStatement x) o e
       from (is-read l m (read ([], f, w))) h = absurd (no-statement w)
       from (is-read l m (read (t ∷ a, f, w))) h =
           (l, m, one l m (w .0) (t .place) (record { first = t; more = a; stand = f; reads = w .1; begins = refl }) h)
@@ -149,41 +150,47 @@ module _ (clause : StartClause) (s : List ℕ) (at : ℕ) where
       from : Verdict (refused noToken p) → (length s ≤ fileBytes) × (at ≤ length s) × OneThree clause (lineAt s at .tokens) (lineAt s at .last) p
       from (not-read l m (three r)) = (l, m, r)
 
-  pub statement-five-exactly : (p : ℕ) → readStatement clause s at ≡ refused notReal p ↔ (length s ≤ fileBytes) × (at ≤ length s) × OneFive clause (lineAt s at .tokens) p
+  pub statement-five-exactly : (p : ℕ)
+      → readStatement clause s at ≡ refused notReal p ↔ (length s ≤ fileBytes) × (at ≤ length s) × OneFive clause (lineAt s at .tokens) p
   statement-five-exactly p = (λ e. from (asked e), λ h. told (not-read (h .0) (h .1) (five (h .2))))
     where
       from : Verdict (refused notReal p) → (length s ≤ fileBytes) × (at ≤ length s) × OneFive clause (lineAt s at .tokens) p
       from (not-read l m (five r)) = (l, m, r)
 
-  pub statement-four-exactly : (p : ℕ) → readStatement clause s at ≡ refused unexpected p ↔ (length s ≤ fileBytes) × (at ≤ length s) × OneFour clause (lineAt s at .tokens) p
+  pub statement-four-exactly : (p : ℕ)
+      → readStatement clause s at ≡ refused unexpected p ↔ (length s ≤ fileBytes) × (at ≤ length s) × OneFour clause (lineAt s at .tokens) p
   statement-four-exactly p = (λ e. from (asked e), λ h. told (not-read (h .0) (h .1) (four (h .2))))
     where
       from : Verdict (refused unexpected p) → (length s ≤ fileBytes) × (at ≤ length s) × OneFour clause (lineAt s at .tokens) p
       from (not-read l m (four r)) = (l, m, r)
 
   pub statement-fifteen-exactly : (p : ℕ)
-      → readStatement clause s at ≡ refused openString p ↔ (length s ≤ fileBytes) × (at ≤ length s) × OneFifteen clause (lineAt s at .tokens) (lineAt s at .last) p
+      → readStatement clause s at ≡ refused openString p
+      ↔ (length s ≤ fileBytes) × (at ≤ length s) × OneFifteen clause (lineAt s at .tokens) (lineAt s at .last) p
   statement-fifteen-exactly p = (λ e. from (asked e), λ h. told (not-read (h .0) (h .1) (fifteen (h .2))))
     where
       from : Verdict (refused openString p) → (length s ≤ fileBytes) × (at ≤ length s) × OneFifteen clause (lineAt s at .tokens) (lineAt s at .last) p
       from (not-read l m (fifteen r)) = (l, m, r)
 
   pub statement-sixteen-exactly : (p : ℕ)
-      → readStatement clause s at ≡ refused brokenString p ↔ (length s ≤ fileBytes) × (at ≤ length s) × OneSixteen clause (lineAt s at .tokens) (lineAt s at .last) p
+      → readStatement clause s at ≡ refused brokenString p
+      ↔ (length s ≤ fileBytes) × (at ≤ length s) × OneSixteen clause (lineAt s at .tokens) (lineAt s at .last) p
   statement-sixteen-exactly p = (λ e. from (asked e), λ h. told (not-read (h .0) (h .1) (sixteen (h .2))))
     where
       from : Verdict (refused brokenString p) → (length s ≤ fileBytes) × (at ≤ length s) × OneSixteen clause (lineAt s at .tokens) (lineAt s at .last) p
       from (not-read l m (sixteen r)) = (l, m, r)
 
   pub statement-seventeen-exactly : (p : ℕ)
-      → readStatement clause s at ≡ refused misshapen p ↔ (length s ≤ fileBytes) × (at ≤ length s) × OneSeventeen clause (lineAt s at .tokens) (lineAt s at .last) p
+      → readStatement clause s at ≡ refused misshapen p
+      ↔ (length s ≤ fileBytes) × (at ≤ length s) × OneSeventeen clause (lineAt s at .tokens) (lineAt s at .last) p
   statement-seventeen-exactly p = (λ e. from (asked e), λ h. told (not-read (h .0) (h .1) (seventeen (h .2))))
     where
       from : Verdict (refused misshapen p) → (length s ≤ fileBytes) × (at ≤ length s) × OneSeventeen clause (lineAt s at .tokens) (lineAt s at .last) p
       from (not-read l m (seventeen r)) = (l, m, r)
 
   pub statement-eighteen-exactly : (p : ℕ)
-      → readStatement clause s at ≡ refused endOfFile p ↔ (length s ≤ fileBytes) × (at ≤ length s) × OneEighteen clause (lineAt s at .tokens) (lineAt s at .last) p
+      → readStatement clause s at ≡ refused endOfFile p
+      ↔ (length s ≤ fileBytes) × (at ≤ length s) × OneEighteen clause (lineAt s at .tokens) (lineAt s at .last) p
   statement-eighteen-exactly p = (λ e. from (asked e), λ h. told (not-read (h .0) (h .1) (eighteen (h .2))))
     where
       from : Verdict (refused endOfFile p) → (length s ≤ fileBytes) × (at ≤ length s) × OneEighteen clause (lineAt s at .tokens) (lineAt s at .last) p

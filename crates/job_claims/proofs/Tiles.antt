@@ -91,9 +91,11 @@ module _ (clause : StartClause) (s : List ℕ) (short : length s ≤ fileBytes) 
       go : After s i (t ∷ a) (c .place) → Tiled clause s i (t .place ∷ os) (y ∷ ys)
       go (then n f) =
           let m : t .place < length s = inside s i t n in
-          let o : One clause s (t .place) y (t .place) (c .place) = record { first = t; more = a; stand = then (again s i t n ∙ n) f; reads = w; begins = refl } in
+          let o : One clause s (t .place) y (t .place) (c .place) =
+          record { first = t; more = a; stand = then (again s i t n ∙ n) f; reads = w; begins = refl } in
           let r : ReadsOne (t .place) y (t .place) (c .place) = reads-one (t .place) (omega arith) y (t .place) (c .place) o in
-          subst (λ (x : read.Statement). Tiled clause s i (t .place ∷ os) (x ∷ ys)) (r .says) (tile (again s i t n) (r .reads) (later (c .place) (c .then-rest)))
+          subst (λ (x : read.Statement). Tiled clause s i (t .place ∷ os) (x ∷ ys)) (r .says)
+          (tile (again s i t n) (r .reads) (later (c .place) (c .then-rest)))
 
   other-tiles : {i p : ℕ} {ts : List Placed} {os : List ℕ} {ys : List read.Statement} → Others clause ts os ys → Tokens s i ts (end p) → Tiled clause s i os ys
   other-tiles none d = over (next-end s d)
@@ -103,7 +105,8 @@ module _ (clause : StartClause) (s : List ℕ) (short : length s ≤ fileBytes) 
   tiles (file w r) d = first-tile (job-any w) d (λ e f. other-tiles r f)
 
 -- there is one way to tile a file
-pub one-tiling : {clause : StartClause} {s : List ℕ} {i : ℕ} {os : List ℕ} {xs ys : List read.Statement} → Tiled clause s i os xs → Tiled clause s i os ys → xs ≡ ys
+pub one-tiling : {clause : StartClause} {s : List ℕ} {i : ℕ} {os : List ℕ} {xs ys : List read.Statement} → Tiled clause s i os xs → Tiled clause s i os ys
+    → xs ≡ ys
 one-tiling (over e) (over f) = refl
 one-tiling {clause} {s} (tile {e = a} {x = x} {os = os} {ys = xs} n r t) (tile {e = b} {x = y} {ys = ys} m q u) =
     let h : placed x _ a ≡ placed y _ b = same-read (sym r ∙ q) in

@@ -51,7 +51,9 @@ OneEighteen clause ts z p = Opens clause ts × ¬ WholeOne clause ts × z ≡ en
 
 -- 4: a token that no statement has after the tokens before it, where 5 does not hold
 abbrev pub OneFour : StartClause → List Placed → ℕ → Type 0
-OneFour clause ts p = (a : List Placed) × (t : Placed) × Stands ts p a t × Opens clause a × ¬ WholeOne clause a × ¬ Opens clause (a ++ (t ∷ [])) × ¬ Opens clause (a ++ (real t ∷ []))
+OneFour clause ts p =
+    (a : List Placed) × (t : Placed) × Stands ts p a t × Opens clause a × ¬ WholeOne clause a × ¬ Opens clause (a ++ (t ∷ []))
+    × ¬ Opens clause (a ++ (real t ∷ []))
 
 -- 5: right shape of time or date where one may stand, but not a real one
 abbrev pub OneFive : StartClause → List Placed → ℕ → Type 0

@@ -14,7 +14,8 @@ use Rattle.item.specs.Tokens.{line}
 pub data Verdict (clause : StartClause) (s : List ℕ) (room : ℕ) : OffsetsRead → Type 0 where
   too-long : fileBytes < length s → Verdict clause s room (refused fileTooLong 0)
   broken : {n p : ℕ} → length s ≤ fileBytes → Says clause (line s .tokens) (line s .last) (refused n p) → Verdict clause s room (refused n p)
-  no-room : {os : List ℕ} → length s ≤ fileBytes → Says clause (line s .tokens) (line s .last) (done os) → room < length os → Verdict clause s room (refused tooFewPlaces 0)
+  no-room : {os : List ℕ} → length s ≤ fileBytes → Says clause (line s .tokens) (line s .last) (done os) → room < length os
+      → Verdict clause s room (refused tooFewPlaces 0)
   fits : {os : List ℕ} → length s ≤ fileBytes → Says clause (line s .tokens) (line s .last) (done os) → length os ≤ room → Verdict clause s room (done os)
 
 -- a legal job file of at most 65,535 bytes, with the offsets of its statements, and a table that has room for them

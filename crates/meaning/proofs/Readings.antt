@@ -142,7 +142,8 @@ module _ (clause : StartClause) (s : List ℕ) where
     reads : readFrom 0 s (moveFile clause) down i ≡ Is (transferred (transfer down at source) start) e
 
   move-read : (down : Bool) {f t : Placed} {c : List Placed} {x : read.Source} {y : read.Start} → production.Is string f → production.Source t x
-      → production.Start clause c y → (z : Placed) → production.Is semicolon z → {i e : ℕ} → After s i (f ∷ t ∷ (c ++ (z ∷ []))) e → MoveRead down i e (f .place) x y
+      → production.Start clause c y → (z : Placed) → production.Is semicolon z → {i e : ℕ} → After s i (f ∷ t ∷ (c ++ (z ∷ []))) e
+      → MoveRead down i e (f .place) x y
   move-read down {f = f} {t = t} {x = x} {y = y} g h k z j {i} {e} (then a (then b d)) =
       let r : SourceRead (f .end) t x = source-read _ h b in
       let q : StartRead (transfer down (itemAt 0 s i .place) (r .source)) (t .end) e y = start-read (transfer down (itemAt 0 s i .place) (r .source)) k z j d in
@@ -190,14 +191,22 @@ module _ (clause : StartClause) (s : List ℕ) where
         statement = Abort Report _;
         says = ap read.abortReport (name-is (told _ d));
         reads =
-            any-kind clause s i ∙ along (statement clause) ABORT _ tt refl a g ∙ along abortKind REPORT _ tt refl b h ∙ along abortName name _ Report refl d l ∙ closes _ _ q j;
+            any-kind clause s i
+            ∙ along (statement clause) ABORT _ tt refl a g
+            ∙ along abortKind REPORT _ tt refl b h
+            ∙ along abortName name _ Report refl d l
+            ∙ closes _ _ q j;
       }
   other-read (abort-event g h l) z j {i} (then a (then b (then d (then q here)))) =
       record {
         statement = Abort Event _;
         says = ap read.abortEvent (name-is (told _ d));
         reads =
-            any-kind clause s i ∙ along (statement clause) ABORT _ tt refl a g ∙ along abortKind EVENT _ tt refl b h ∙ along abortName name _ Event refl d l ∙ closes _ _ q j;
+            any-kind clause s i
+            ∙ along (statement clause) ABORT _ tt refl a g
+            ∙ along abortKind EVENT _ tt refl b h
+            ∙ along abortName name _ Event refl d l
+            ∙ closes _ _ q j;
       }
 
   pub statement-reads : {a : List Placed} {y : read.Statement} → Ended (production.Any clause) a y → {i e : ℕ} → After s i a e → StatementReads i e y

@@ -54,7 +54,8 @@ pick-alike q t h r k m test a (e ∷ es) ws l =
 pub on-alike : (q : Point) (t : Item) (h : Held q) (k m : (p : Point) → Held p → StatementRead) → ((p : Point) (x : Held p) → k p x ≡ m p x)
     → onItem q h t k ≡ onItem q h t m
 on-alike q t h k m a =
-    pick-alike q t h (otherwise q t) k m (λ p. true) (λ p x e. a p x) (next q) (adds q) (at-point (λ (p : Point). every (λ (e : Edge). true) (next p)) refl refl q)
+    pick-alike q t h (otherwise q t) k m (λ p. true) (λ p x e. a p x) (next q) (adds q)
+    (at-point (λ (p : Point). every (λ (e : Edge). true) (next p)) refl refl q)
 
 module _ (base : ℕ) (s : List ℕ) where
   enough : (n : ℕ) (q : Point) (h : Held q) (at : ℕ) → deep n q ≡ true → readWithin base s n q h at ≡ readWithin base s (suc n) q h at

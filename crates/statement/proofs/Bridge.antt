@@ -75,12 +75,16 @@ open-end q [] p d = refl
 open-end q (o ∷ os) p d = rw d
 
 -- a token that may not stand
-barred-reads : (clause : StartClause) (q : Point) → isPoint q done ≡ false → (t : Placed) (ts : List Placed) (z : Last) → isPoint (step q (t .class)) dead ≡ true → (y : Bool)
+barred-reads : (clause : StartClause) (q : Point) → isPoint q done ≡ false → (t : Placed) (ts : List Placed) (z : Last)
+    → isPoint (step q (t .class)) dead ≡ true → (y : Bool)
     → isPoint (step q (shape (t .class))) dead ≡ y → (os : List ℕ) → close (moves clause (on q os) (t ∷ ts)) z ≡ refused (cond y unexpected notReal) (t .place)
-barred-reads clause q o t ts z e true f os = ap (λ (x : State). close x z) (ap (λ (x : State). moves clause x ts) (rw (o, e, f)) ∙ moves-refused clause unexpected (t .place) ts)
-barred-reads clause q o t ts z e false f os = ap (λ (x : State). close x z) (ap (λ (x : State). moves clause x ts) (rw (o, e, f)) ∙ moves-refused clause notReal (t .place) ts)
+barred-reads clause q o t ts z e true f os =
+    ap (λ (x : State). close x z) (ap (λ (x : State). moves clause x ts) (rw (o, e, f)) ∙ moves-refused clause unexpected (t .place) ts)
+barred-reads clause q o t ts z e false f os =
+    ap (λ (x : State). close x z) (ap (λ (x : State). moves clause x ts) (rw (o, e, f)) ∙ moves-refused clause notReal (t .place) ts)
 
-carry : (clause : StartClause) (s : List ℕ) (q r : Point) (os : List ℕ) (l m : List Placed) (z : Last) → close (moves clause (on q os) l) z ≡ close (moves clause (on r os) m) z
+carry : (clause : StartClause) (s : List ℕ) (q r : Point) (os : List ℕ) (l m : List Placed) (z : Last)
+    → close (moves clause (on q os) l) z ≡ close (moves clause (on r os) m) z
     → (x : StatementRead) → Reads clause s r os m z x → Reads clause s q os l z x
 carry clause s q r os l m z e (Is x b) y = (y .0, y .1, e ∙ y .2)
 carry clause s q r os l m z e (Refused n) y = e ∙ y
@@ -95,5 +99,6 @@ rest-reads clause s =
       over = λ q o i p os. open-end q os p o;
       lost = λ q o i why p os. refl;
       barred = λ q o i t ts z e y f os. barred-reads clause q o t ts z e y f os;
-      along = λ q o i t ts z n e v r os. carry clause s q (step q (t .class)) os (t ∷ ts) ts z (ap (λ (x : State). close (moves clause x ts) z) (rw (o, e))) v (r os);
+      along = λ q o i t ts z n e v r os.
+          carry clause s q (step q (t .class)) os (t ∷ ts) ts z (ap (λ (x : State). close (moves clause x ts) z) (rw (o, e))) v (r os);
     })
