@@ -5,9 +5,9 @@
  * (a length of 0 still wants a pointer that is not NULL). What is lent for writing must not overlap anything else lent to that call.
  * No call keeps a pointer, allocates, or uses anything but what it is lent: calls on different memory may run at the same time.
  *
- * A call that begins rb_is_ answers yes or no. A call that can refuse returns RB_DONE, or a refusal, which rb_refusal_number and
- * rb_refusal_place take apart. A refused call changes nothing that it was lent. A call that is done writes what is said below, and
- * nothing else.
+ * A call that begins rb_is_ answers yes or no. A call that can refuse, rb_is_due among them, returns RB_DONE, or a refusal, which
+ * rb_refusal_number and rb_refusal_place take apart. A refused call changes nothing that it was lent. A call that is done writes what is
+ * said below, and nothing else.
  */
 #ifndef RADDLEBRUSH_H
 #define RADDLEBRUSH_H
@@ -22,7 +22,7 @@ extern "C" {
 
 /* ---- the version: one more with each change of a name, a type, a number or a size of this header */
 
-#define RB_VERSION 5u
+#define RB_VERSION 6u
 
 /* The version of the archive. */
 uint32_t rb_version(void);
@@ -43,7 +43,8 @@ typedef uint64_t rb_result;
 #define RB_REFUSAL_UNEXPECTED 4u          /* a token that no legal file has after the tokens before it */
 #define RB_REFUSAL_NOT_REAL 5u            /* a time or date that is not a real one */
 #define RB_REFUSAL_TOO_MANY_STATEMENTS 6u /* any token after 64 statements */
-#define RB_REFUSAL_NOT_A_RECORD 7u        /* record field out of range, bytes that are not a record, or a line that no report has */
+#define RB_REFUSAL_NOT_A_RECORD 7u        /* record field out of range, bytes that are not a record, or a line that no report has; for
+                                           * rb_is_due a number or a string that no job file may have */
 #define RB_REFUSAL_TOO_LITTLE_ROOM 8u     /* lent output too short for the whole answer */
 #define RB_REFUSAL_ALL_TAKEN 9u           /* every session number taken */
 #define RB_REFUSAL_NOT_THE_ONE 10u        /* ticket, program or command isn't the one this call may name now */
@@ -55,6 +56,7 @@ typedef uint64_t rb_result;
 #define RB_REFUSAL_BROKEN_STRING 16u      /* a string that first meets a forbidden byte (below 32, or 255) or its 256th content byte */
 #define RB_REFUSAL_MISSHAPEN 17u          /* an overlong word, or a numeric run that is neither number nor time; place: its first byte */
 #define RB_REFUSAL_END_OF_FILE 18u        /* the end of the file, that no legal file has after the tokens before it; place: the length */
+#define RB_REFUSAL_NOT_COMPARABLE 19u     /* a number against a string, or an order between strings */
 
 /* The number of a refusal; RB_DONE where there is none. */
 static inline uint32_t rb_refusal_number(rb_result result) { return (uint32_t)(result & 255u); }
@@ -73,7 +75,7 @@ static inline const char *rb_refusal_text(uint32_t number) {
     case RB_REFUSAL_UNEXPECTED: return "this token may not stand here";
     case RB_REFUSAL_NOT_REAL: return "no real date or time";
     case RB_REFUSAL_TOO_MANY_STATEMENTS: return "too many statements";
-    case RB_REFUSAL_NOT_A_RECORD: return "not a record, or a line that no report has";
+    case RB_REFUSAL_NOT_A_RECORD: return "not a record, a line that no report has, or a value that is not permitted";
     case RB_REFUSAL_TOO_LITTLE_ROOM: return "too little room for the answer";
     case RB_REFUSAL_ALL_TAKEN: return "every session number is taken";
     case RB_REFUSAL_NOT_THE_ONE: return "not the ticket, program or command that is due";
@@ -85,6 +87,7 @@ static inline const char *rb_refusal_text(uint32_t number) {
     case RB_REFUSAL_BROKEN_STRING: return "a forbidden byte in the string, or more than 255 bytes";
     case RB_REFUSAL_MISSHAPEN: return "a word that is too long, or neither a number nor a time";
     case RB_REFUSAL_END_OF_FILE: return "the file ends too early";
+    case RB_REFUSAL_NOT_COMPARABLE: return "a number against a string, or an order between strings";
     default: return "unknown refusal";
     }
 }
@@ -220,6 +223,44 @@ bool rb_is_text_at(const uint8_t *file, size_t file_bytes, size_t quote);
 
 /* The length of that string's text, which is the bytes after the quote; 0 where no whole string begins there. */
 size_t rb_text_length(const uint8_t *file, size_t file_bytes, size_t quote);
+
+/* ---- whether to start */
+
+/* The present value of a parameter: a number, or a string by its bytes. */
+typedef struct {
+    uint32_t kind;       /* RB_OPERAND_NUMBER or RB_OPERAND_STRING */
+    uint32_t scale;      /* of RB_OPERAND_NUMBER: as for a statement */
+    int64_t mantissa;    /* of RB_OPERAND_NUMBER: as for a statement, so that 2.5 is 25 with scale 1 */
+    const uint8_t *text; /* of RB_OPERAND_STRING: its bytes, without quotes; not NULL, also where there are none */
+    size_t text_bytes;   /* of RB_OPERAND_STRING */
+} rb_value;
+
+/* The proved call behind rb_is_due: the members of the statement and of the value as numbers, and 1 or 0 for yes or no. */
+rb_result rb_is_due_numbers(const uint8_t *file, size_t file_bytes, uint32_t start_kind, uint32_t start_time, uint32_t start_date,
+                            uint32_t operator_kind, uint32_t operand_kind, size_t operand_quote, uint32_t scale, int64_t mantissa,
+                            uint32_t date, uint32_t time, uint32_t taken_up, uint32_t value_kind, uint32_t value_scale,
+                            int64_t value_mantissa, const uint8_t *value_text, size_t value_text_bytes, uint32_t *due);
+
+/* Whether the start clause of a statement that was read from the file is due at the present date and time. taken_up is the date on which
+ * the command was taken up; a clause with a time and no date is due from that time of that day on. value is the parameter's present value;
+ * where the clause is no condition any value serves, an empty one too, but not NULL. Numbers are compared by their exact value: 2.50 equals
+ * 2.5. Nothing is remembered: with a clock that was set back, a clause that was due may be due no more.
+ * RB_REFUSAL_NOT_REAL (a date or time that is given, and of RB_START_AT_TIME the clause's own); for a condition RB_REFUSAL_NOT_A_RECORD (the
+ * constant or the value: a mantissa of more than 16 digits, a scale over 15, a text over 255 bytes or with a byte that no string may have,
+ * no whole string at the place of the constant; an operator or a kind that is none), then RB_REFUSAL_NOT_COMPARABLE. A start_kind that is
+ * none, as in a statement without a start clause, is RB_REFUSAL_NOT_A_RECORD too. */
+static inline rb_result rb_is_due(const uint8_t *file, size_t file_bytes, const rb_statement *statement, uint32_t date, uint32_t time,
+                                  uint32_t taken_up, const rb_value *value, bool *due) {
+    bool text = value->kind == RB_OPERAND_STRING;
+    uint32_t yes = 0;
+    rb_result result = rb_is_due_numbers(file, file_bytes, statement->start_kind, statement->start_time, statement->start_date,
+                                         statement->operator_kind, statement->operand_kind, statement->operand_quote, statement->scale,
+                                         statement->mantissa, date, time, taken_up, value->kind, value->scale, value->mantissa,
+                                         text ? value->text : file, text ? value->text_bytes : 0, &yes);
+    if (result != RB_DONE) return result;
+    *due = yes == 1;
+    return RB_DONE;
+}
 
 /* ---- dates (yyyymmdd) and times (hhmmss), as whole numbers */
 

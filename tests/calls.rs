@@ -80,7 +80,7 @@ fn start_numbers(start: Start) -> [u64; 10] {
 }
 
 /// The members in the header's order.
-fn statement_numbers(s: &Statement) -> [u64; 21] {
+pub fn statement_numbers(s: &Statement) -> [u64; 21] {
     let (kind, file, name, aborted, rest) = match s.body {
         Body::Job { name, response } => (1, response, span(name), 0, None),
         Body::Upload { file, source, start } => (2, file, [0, 0], 0, Some((source, start))),

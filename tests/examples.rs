@@ -1,14 +1,18 @@
-//! Document 01's checked examples, its traps, and the readings that docs/DECISIONS.md names, P1's, P4's and P7's among them: with the numbers
-//! written out, so that the reference is held against the documents too. Then the library is asked the same.
+//! Document 01's checked examples, its traps, and the readings that docs/DECISIONS.md names, P1's, P3's, P4's and P7's among them: with the
+//! numbers written out, so that the reference is held against the documents too. Then the library is asked the same.
 
 use crate::calls::{expect_calendar, expect_job, expect_name_read, expect_record_written, expect_statement};
 use crate::library::{returned, Library};
 use crate::reference::calendar::{is_real_date, is_real_time};
 use crate::reference::job::{read_job, read_statement, Body, Missing, Start, Value, SETTINGS};
 use crate::reference::name::read_name;
+use crate::reference::plain;
 use crate::reference::record::{write_record, Outcome, Record};
 use crate::reference::report::{read_report, write_report};
+use crate::reference::start::Question;
+use crate::reference::token::number_value;
 use crate::reports::{expect_report_read, expect_report_written};
+use crate::starts::{clause_of, expect_due};
 
 fn job_with(l: &mut Library, file: &[u8], missing: Missing, number: u64, place: u64) {
     assert_eq!(returned(&read_job(file, missing, 64)), number + 256 * place, "{} {missing:?}", String::from_utf8_lossy(file));
@@ -173,6 +177,232 @@ fn februaries(l: &mut Library) -> usize {
     dates.len()
 }
 
+/// A question with its answer: whether the clause is due, or the number of the refusal.
+type Decision = (Question, Result<bool, u32>);
+
+/// A clause at noon of the day on which its command was taken up.
+fn at_noon(clause: &str) -> Question {
+    let file = format!("UPLOAD \"f\" ACTIVE START {clause};").into_bytes();
+    let statement = read_statement(&file, Missing::Refused, 0).expect("a clause that is read");
+    Question { date: 20261117, time: 120000, taken_up: 20261117, ..clause_of(&file, &statement) }
+}
+
+/// The same with a present value, which is spelled as in a job file.
+fn with_value(clause: &str, value: &str) -> Question {
+    let q = at_noon(clause);
+    match value.strip_prefix('"').and_then(|v| v.strip_suffix('"')) {
+        Some(content) => Question { value_kind: 2, value_text: content.into(), ..q },
+        None => {
+            let (value_mantissa, value_scale) = number_value(value.as_bytes());
+            Question { value_kind: 1, value_mantissa, value_scale, ..q }
+        }
+    }
+}
+
+fn timed_starts() -> Vec<Decision> {
+    // A clause, the day on which its command was taken up, the present date and time, and the answer.
+    let cases = [
+        ("IMMEDIATE", 20261117, 20261117, 0, Ok(true)),
+        ("IMMEDIATE", 20261117, 20261116, 235959, Ok(true)),
+        ("TIME>= 08:00:00", 20261117, 20261117, 75959, Ok(false)),
+        ("TIME>= 08:00:00", 20261117, 20261117, 80000, Ok(true)),
+        ("TIME>= 08:00:00", 20261117, 20261117, 80001, Ok(true)),
+        // The clock is set back.
+        ("TIME>= 08:00:00", 20261117, 20261117, 75959, Ok(false)),
+        ("TIME>= 08:00:00", 20261117, 20261118, 0, Ok(true)),
+        ("TIME>= 08:00:00", 20261117, 20261116, 235959, Ok(false)),
+        ("TIME>= 08:00:00", 20261118, 20261117, 235959, Ok(false)),
+        ("TIME>= 00:00:00", 20261117, 20261117, 0, Ok(true)),
+        ("TIME>= 00:00:00", 20261117, 20261116, 235959, Ok(false)),
+        ("TIME>= 08:00:00 20261120", 20261117, 20261117, 80000, Ok(false)),
+        ("TIME>= 08:00:00 20261120", 20261117, 20261119, 235959, Ok(false)),
+        ("TIME>= 08:00:00 20261120", 20261117, 20261120, 75959, Ok(false)),
+        ("TIME>= 08:00:00 20261120", 20261117, 20261120, 80000, Ok(true)),
+        ("TIME>= 08:00:00 20261120", 20261121, 20261120, 80000, Ok(true)),
+        ("TIME>= 08:00:00 20261120", 20261117, 20261121, 0, Ok(true)),
+        // Date first, and not time first.
+        ("TIME>= 23:59:59 20261231", 20261117, 20270101, 0, Ok(true)),
+        ("TIME>= 00:00:00 20270101", 20261117, 20261231, 235959, Ok(false)),
+        ("TIME>= 23:59:59 99991231", 20261117, 99991231, 235958, Ok(false)),
+        ("TIME>= 23:59:59 99991231", 20261117, 99991231, 235959, Ok(true)),
+        ("TIME>= 00:00:00 00000101", 20261117, 101, 0, Ok(true)),
+        ("TIME>= 00:00:00 20240229", 20261117, 20240228, 235959, Ok(false)),
+        ("TIME>= 00:00:00 20240229", 20261117, 20240229, 0, Ok(true)),
+        ("IMMEDIATE", 20000229, 20240229, 0, Ok(true)),
+        ("IMMEDIATE", 20000229, 19000229, 0, Err(5)),
+        ("IMMEDIATE", 20260229, 20261117, 0, Err(5)),
+        ("IMMEDIATE", 20261117, 20260431, 0, Err(5)),
+        ("IMMEDIATE", 20261117, 20261117, 240000, Err(5)),
+        ("IMMEDIATE", 0, 20261117, 0, Err(5)),
+        ("TIME>= 08:00:00", 20260229, 20261117, 80000, Err(5)),
+        ("TIME>= 08:00:00", 20261117, 20261117, 240000, Err(5)),
+        ("TIME>= 08:00:00", 20261117, 100000101, 80000, Err(5)),
+        ("TIME>= 08:00:00 20261120", 20260229, 20261120, 80000, Err(5)),
+        ("TIME>= 08:00:00 20261120", 20261117, 20261120, 80060, Err(5)),
+    ];
+    cases.map(|(clause, taken_up, date, time, answer)| (Question { taken_up, date, time, ..at_noon(clause) }, answer)).into()
+}
+
+fn conditional_starts() -> Vec<Decision> {
+    // A clause, the present value, and the answer.
+    let cases = [
+        ("p = 2.50", "2.5", Ok(true)),
+        ("p != 2.50", "2.5", Ok(false)),
+        ("p = 2.5", "2.50", Ok(true)),
+        ("p >= 2.500", "2.5", Ok(true)),
+        ("p < 2.51", "2.5", Ok(true)),
+        ("p = 25", "2.5", Ok(false)),
+        ("p = 0", "-0", Ok(true)),
+        ("p = -0.0", "0", Ok(true)),
+        ("p < 0", "-0.00", Ok(false)),
+        ("p = -1", "1", Ok(false)),
+        ("p > -1", "1", Ok(true)),
+        ("p > -2", "-1.5", Ok(true)),
+        ("p < -1", "-1.5", Ok(true)),
+        ("p = 007", "7", Ok(true)),
+        ("p > 9.999999999999999", "9999999999999999", Ok(true)),
+        ("p < 9999999999999999", "9.999999999999999", Ok(true)),
+        ("p < -9.999999999999999", "-9999999999999999", Ok(true)),
+        ("p < -9999999999999999", "-9.999999999999999", Ok(false)),
+        ("p < 9999999999999999", "-9999999999999999", Ok(true)),
+        ("p < 10", "9.999999999999999", Ok(true)),
+        ("p >= 10", "9.999999999999999", Ok(false)),
+        ("p > 9.999999999999999", "10", Ok(true)),
+        ("p > -10", "-9.999999999999999", Ok(true)),
+        ("p > 999999999999999.9", "1000000000000000", Ok(true)),
+        ("p >= 1000000000000000", "999999999999999.9", Ok(false)),
+        ("p < -999999999999999.9", "-1000000000000000", Ok(true)),
+        ("p = 0.000000000000000", "0", Ok(true)),
+        ("p < 0.000000000000001", "0", Ok(true)),
+        ("p > -0.000000000000001", "0", Ok(true)),
+        ("p = 1.000000000000000", "1", Ok(true)),
+        ("p = 1", "1.000000000000001", Ok(false)),
+        ("p > 1", "1.000000000000001", Ok(true)),
+        ("p < 0", "-0.000000000000001", Ok(true)),
+        ("p = 9999999999999999", "9999999999999998", Ok(false)),
+        ("p = \"abc\"", "\"abc\"", Ok(true)),
+        ("p != \"abc\"", "\"abc\"", Ok(false)),
+        ("p = \"abc\"", "\"abd\"", Ok(false)),
+        ("p = \"abc\"", "\"xbc\"", Ok(false)),
+        ("p != \"abc\"", "\"abd\"", Ok(true)),
+        ("p = \"abc\"", "\"ab\"", Ok(false)),
+        ("p = \"ab\"", "\"abc\"", Ok(false)),
+        ("p != \"abc\"", "\"ab\"", Ok(true)),
+        ("p = \"abc\"", "\"ABC\"", Ok(false)),
+        ("p = \"abc\"", "\"abc \"", Ok(false)),
+        ("p = \"2.50\"", "\"2.5\"", Ok(false)),
+        ("p = \"\"", "\"\"", Ok(true)),
+        ("p = \"\"", "\"a\"", Ok(false)),
+        ("p != \"a\"", "\"\"", Ok(true)),
+        ("p > \"abc\"", "\"abd\"", Err(19)),
+        ("p < \"abc\"", "\"abc\"", Err(19)),
+        ("p >= \"abc\"", "\"abc\"", Err(19)),
+        ("p <= \"abc\"", "\"abc\"", Err(19)),
+        ("p = \"1\"", "1", Err(19)),
+        ("p != \"1\"", "1", Err(19)),
+        ("p < \"1\"", "1", Err(19)),
+        ("p = 1", "\"1\"", Err(19)),
+        ("p != 1", "\"1\"", Err(19)),
+        ("p < 1", "\"1\"", Err(19)),
+    ];
+    let mut all: Vec<Decision> = cases.map(|(clause, value, answer)| (with_value(clause, value), answer)).into();
+    // An operator, and its answers where the value is below the constant, equal to it, and above it.
+    for (operator, answers) in [
+        ("=", [false, true, false]),
+        ("!=", [true, false, true]),
+        (">", [false, false, true]),
+        ("<", [true, false, false]),
+        (">=", [false, true, true]),
+        ("<=", [true, true, false]),
+    ] {
+        for (value, due) in ["-2.51", "-2.50", "-2.49"].into_iter().zip(answers) {
+            all.push((with_value(&format!("p {operator} -2.5"), value), Ok(due)));
+        }
+    }
+    all
+}
+
+/// Numbers that no statement is read with, values that are not permitted, and what is not looked at; 5 before 7, and 7 before 19.
+fn refused_starts() -> Vec<Decision> {
+    const BEYOND: i64 = 10_000_000_000_000_000;
+    let timed = at_noon("TIME>= 08:00:00");
+    let number = with_value("p < 5", "4");
+    let text = with_value("p = \"abc\"", "\"abc\"");
+    let unlike = with_value("p < \"abc\"", "4");
+    let value_text = |bytes: &[u8]| Question { value_text: bytes.to_vec(), ..text.clone() };
+    let constant = |bytes: &[u8]| Question { file: [b"\"", bytes, b"\""].concat(), operand_quote: 0, ..text.clone() };
+    vec![
+        (Question { start_time: 240000, ..timed.clone() }, Err(5)),
+        (Question { start_date: 20260229, ..timed.clone() }, Err(5)),
+        (Question { start_date: 100000101, ..timed.clone() }, Err(5)),
+        (Question { value_kind: 3, value_scale: 16, ..timed.clone() }, Ok(true)),
+        (Question { operator_kind: 7, operand_kind: 3, scale: 16, ..timed.clone() }, Ok(true)),
+        (Question { start_kind: 1, start_time: 240000, start_date: 20260229, ..timed.clone() }, Ok(true)),
+        (Question { start_kind: 1, value_kind: 1, value_mantissa: BEYOND, ..timed.clone() }, Ok(true)),
+        (Question { start_kind: 0, ..timed.clone() }, Err(7)),
+        (Question { start_kind: 4, ..number.clone() }, Err(7)),
+        (Question { start_kind: u32::MAX, start_time: 240000, ..number.clone() }, Err(7)),
+        (Question { start_kind: 0, taken_up: 20260229, ..number.clone() }, Err(5)),
+        (number.clone(), Ok(true)),
+        (Question { start_time: 240000, start_date: 20260229, ..number.clone() }, Ok(true)),
+        (Question { operator_kind: 0, ..number.clone() }, Err(7)),
+        (Question { operator_kind: 7, ..number.clone() }, Err(7)),
+        (Question { operand_kind: 0, ..number.clone() }, Err(7)),
+        (Question { operand_kind: 3, ..number.clone() }, Err(7)),
+        (Question { value_kind: 0, ..number.clone() }, Err(7)),
+        (Question { value_kind: 3, ..number.clone() }, Err(7)),
+        (Question { mantissa: BEYOND - 1, scale: 15, ..number.clone() }, Ok(true)),
+        (Question { mantissa: BEYOND, ..number.clone() }, Err(7)),
+        (Question { mantissa: -BEYOND, ..number.clone() }, Err(7)),
+        (Question { mantissa: i64::MAX, ..number.clone() }, Err(7)),
+        (Question { mantissa: i64::MIN, ..number.clone() }, Err(7)),
+        (Question { scale: 16, ..number.clone() }, Err(7)),
+        (Question { scale: u32::MAX, ..number.clone() }, Err(7)),
+        (Question { value_mantissa: 1 - BEYOND, ..number.clone() }, Ok(true)),
+        (Question { value_mantissa: BEYOND, ..number.clone() }, Err(7)),
+        (Question { value_mantissa: -BEYOND, ..number.clone() }, Err(7)),
+        (Question { value_mantissa: i64::MIN, ..number.clone() }, Err(7)),
+        (Question { value_mantissa: 0, value_scale: 16, ..number.clone() }, Err(7)),
+        (Question { value_mantissa: 0, value_scale: u32::MAX, ..number.clone() }, Err(7)),
+        (Question { value_text: vec![34; 256], ..number.clone() }, Ok(true)),
+        (Question { operand_quote: text.operand_quote + 1, ..text.clone() }, Err(7)),
+        (Question { operand_quote: text.operand_quote + 4, ..text.clone() }, Err(7)),
+        (Question { operand_quote: 7, ..text.clone() }, Ok(false)),
+        (Question { operand_quote: 7, value_text: b"f".to_vec(), ..text.clone() }, Ok(true)),
+        (Question { operand_quote: text.file.len(), ..text.clone() }, Err(7)),
+        (Question { operand_quote: usize::MAX, ..text.clone() }, Err(7)),
+        (Question { file: Vec::new(), operand_quote: 0, ..text.clone() }, Err(7)),
+        (Question { mantissa: BEYOND, value_mantissa: BEYOND, value_scale: 16, ..text.clone() }, Ok(true)),
+        (constant(b"abc"), Ok(true)),
+        (constant(&[b'q'; 255]), Ok(false)),
+        (constant(&[b'q'; 256]), Err(7)),
+        (constant(b"ab\x1f"), Err(7)),
+        (constant(b"ab\xff"), Err(7)),
+        (value_text(&[b'q'; 255]), Ok(false)),
+        (value_text(&[b'q'; 256]), Err(7)),
+        (value_text(b"ab\x1f"), Err(7)),
+        (value_text(b"ab "), Ok(false)),
+        (value_text(b"ab\""), Err(7)),
+        (value_text(b"\"abc\""), Err(7)),
+        (value_text(b"ab\xfe"), Ok(false)),
+        (value_text(b"ab\xff"), Err(7)),
+        (unlike.clone(), Err(19)),
+        (Question { value_scale: 16, ..unlike.clone() }, Err(7)),
+        (Question { operand_quote: 0, ..unlike.clone() }, Err(7)),
+        (Question { time: 240000, ..unlike.clone() }, Err(5)),
+        (Question { date: 20261131, value_scale: 16, ..unlike.clone() }, Err(5)),
+        (Question { taken_up: 20260229, operator_kind: 0, ..unlike.clone() }, Err(5)),
+    ]
+}
+
+fn start_examples(l: &mut Library) -> usize {
+    let cases = [timed_starts(), conditional_starts(), refused_starts()].concat();
+    for (question, answer) in &cases {
+        assert_eq!(expect_due(l, question), answer.or_else(plain), "{question:?}");
+    }
+    cases.len()
+}
+
 /// Copies of a field with semicolons between, as a line.
 fn line(field: &str, copies: usize) -> String {
     vec![field; copies].join(";") + "\r\n"
@@ -323,5 +553,5 @@ fn reports_written(l: &mut Library) -> usize {
 }
 
 pub fn all(l: &mut Library) -> usize {
-    job_examples(l) + clause_examples(l) + other_examples(l) + februaries(l) + reports_read(l) + reports_written(l)
+    job_examples(l) + clause_examples(l) + other_examples(l) + februaries(l) + start_examples(l) + reports_read(l) + reports_written(l)
 }

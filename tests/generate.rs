@@ -1,6 +1,7 @@
-//! Legal and damaged job files, records, reports, names, numbers and session tables.
+//! Legal and damaged job files, moments and values, records, reports, names, numbers and session tables.
 
 use crate::random::Random;
+use crate::reference::calendar::{is_real_date, is_real_time};
 use crate::reference::record::{record_bytes, Outcome, Record};
 use crate::reference::report::DELIMITERS;
 use crate::reference::table;
@@ -307,11 +308,117 @@ pub fn statement_file(r: &mut Random) -> (Vec<u8>, usize) {
     (file, at)
 }
 
+/// A statement other than JOB, with its start clause, and nothing damaged.
+pub fn whole_statement(r: &mut Random) -> Vec<u8> {
+    let tokens = later_tokens(r, false);
+    spaced(r, &tokens)
+}
+
 /// A place of a file: mostly one with a quote.
 pub fn quote(r: &mut Random, file: &[u8]) -> usize {
     let quotes: Vec<usize> = (0..file.len()).filter(|i| file[*i] == 34).collect();
     let any = r.below(file.len() + 3);
     if quotes.is_empty() || r.once_in(6) { r.pick(&[file.len(), usize::MAX, any]) } else { r.pick(&quotes) }
+}
+
+// ---- moments and values for start clauses
+
+/// The day before, or the same where there is none. Days that follow each other are never 9000 apart.
+fn day_before(day: u32) -> u32 {
+    (day.saturating_sub(9000)..day).rev().find(|d| is_real_date(*d)).unwrap_or(day)
+}
+
+/// The day after, or the same where there is none.
+fn day_after(day: u32) -> u32 {
+    (day..day.saturating_add(9000)).skip(1).find(|d| is_real_date(*d)).unwrap_or(day)
+}
+
+/// A second before a real time of a day.
+fn second_before(day: u32, real: u32) -> (u32, u32) {
+    (0..real).rev().find(|t| is_real_time(*t)).map_or((day_before(day), 235_959), |t| (day, t))
+}
+
+/// A second after it.
+fn second_after(day: u32, real: u32) -> (u32, u32) {
+    (real + 1..240_000).find(|t| is_real_time(*t)).map_or((day_after(day), 0), |t| (day, t))
+}
+
+/// The same day, one beside it, or any date.
+pub fn near_date(r: &mut Random, day: u32) -> u32 {
+    match r.below(5) {
+        0 | 1 => day,
+        2 => day_before(day),
+        3 => day_after(day),
+        _ => date(r),
+    }
+}
+
+/// A moment at a real time of a day, a second or a day before it or after it, at an end of that day or of one beside it, or any.
+pub fn near_moment(r: &mut Random, day: u32, real: u32) -> (u32, u32) {
+    match r.below(11) {
+        0 | 1 => (day, real),
+        2 => second_before(day, real),
+        3 => second_after(day, real),
+        4 => (day_before(day), real),
+        5 => (day_after(day), real),
+        6 => (day_before(day), 235_959),
+        7 => (day_after(day), 0),
+        8 => (day, r.pick(&[0, 235_959])),
+        9 => (day, time(r)),
+        _ => (date(r), time(r)),
+    }
+}
+
+/// A mantissa and a scale, at the ends of what is permitted and beyond.
+pub fn any_number(r: &mut Random) -> (i64, u32) {
+    let most = 9_999_999_999_999_999;
+    let any = r.next() as i64 >> r.below(64);
+    let mantissa = r.pick(&[i64::MIN, -most - 1, -most, -1, 0, 1, most, most + 1, i64::MAX, any]);
+    (mantissa, r.pick(&[0, 0, 1, 1, 15, 15, 16, u32::MAX]))
+}
+
+/// The same value with more zeros after the point or with fewer, one unit more or less in the last place, the other sign, another scale,
+/// zero, or any number.
+pub fn near_number(r: &mut Random, mut mantissa: i64, mut scale: u32) -> (i64, u32) {
+    for _ in 0..r.pick(&[0, 0, 1, 2, 15]) {
+        if mantissa.unsigned_abs() < 10u64.pow(15) && scale < 15 {
+            (mantissa, scale) = (10 * mantissa, scale + 1);
+        }
+    }
+    while mantissa % 10 == 0 && scale > 0 && r.once_in(3) {
+        (mantissa, scale) = (mantissa / 10, scale - 1);
+    }
+    match r.below(12) {
+        0..=4 => (mantissa, scale),
+        5 | 6 => (mantissa.wrapping_add(1), scale),
+        7 | 8 => (mantissa.wrapping_sub(1), scale),
+        9 => (mantissa.wrapping_neg(), scale),
+        10 => (r.pick(&[mantissa, 0]), r.pick(&[0, 1, 15])),
+        _ => any_number(r),
+    }
+}
+
+/// A string's content at the ends of its length and beyond, now and then with a byte at or beyond the ends of what is permitted.
+pub fn any_text(r: &mut Random) -> Vec<u8> {
+    let mut content = vec![b't'; r.pick(&[0, 1, 2, 254, 255, 256])];
+    if !content.is_empty() && r.once_in(3) {
+        let at = r.below(content.len());
+        content[at] = r.pick(&[0, 31, 32, 33, 34, 35, 254, 255]);
+    }
+    content
+}
+
+/// The same content, its beginning, a byte more, a byte changed, or any.
+pub fn near_text(r: &mut Random, content: &[u8]) -> Vec<u8> {
+    let mut near = content.to_vec();
+    match r.below(8) {
+        0..=3 => {}
+        4 => drop(near.pop()),
+        5 => near.push(text_byte(r)),
+        6 => damage_bytes(r, &mut near),
+        _ => near = any_text(r),
+    }
+    near
 }
 
 // ---- records

@@ -1,6 +1,7 @@
 //! Holds include/raddlebrush.h against the Rattle source: each exported call with the names, the number and the widths of its parameters,
 //! the three counts each with its type, each constant, that each structure has a member for each number that its call writes, in the
-//! numbers' order, and that parts are handed on as twice as many numbers. Run in the repository's root.
+//! numbers' order, that parts are handed on as twice as many numbers, and that a start clause is decided from the members of each name. Run
+//! in the repository's root.
 
 use std::collections::BTreeMap;
 use std::fs;
@@ -160,10 +161,15 @@ fn source_name(header: &str) -> &str {
     }
 }
 
-/// The members of a structure in their order, a part as its two.
-fn members(header: &str, structure: &str) -> Vec<String> {
+/// The members of a structure in their order, each with its type.
+fn declared(header: &str, structure: &str) -> Vec<String> {
     let body = header.split_once(&format!("}} {structure};")).unwrap().0.rsplit_once("typedef struct {").unwrap().1;
-    let each = body.split(';').map(squeezed).filter(|m| !m.is_empty());
+    body.split(';').map(squeezed).filter(|m| !m.is_empty()).collect()
+}
+
+/// The members' names, a part as its two.
+fn members(header: &str, structure: &str) -> Vec<String> {
+    let each = declared(header, structure).into_iter();
     each.flat_map(|m| {
         let (t, name) = m.split_once(' ').unwrap();
         match t {
@@ -187,20 +193,58 @@ fn filled(inline: &str) -> Vec<String> {
     by_number.into_iter().map(|(_, member)| member).collect()
 }
 
+/// The name of a parameter, or of a member.
+fn name_of(p: &str) -> &str {
+    p.rsplit([' ', '*']).next().unwrap()
+}
+
+/// The parameters of an inline function, and its body.
+fn taken_apart(inline: &str) -> (Vec<String>, String) {
+    let (head, body) = inline.split_once(") {").unwrap();
+    (head.split_once('(').unwrap().1.split(',').map(squeezed).collect(), squeezed(body))
+}
+
 /// Whether an inline function returns what the call behind it does: of its own parameters in their order, and twice the count of its parts.
 fn hands_on(name: &str, inline: &str) -> bool {
-    let (head, body) = inline.split_once(") {").unwrap();
-    let parameters = head.split_once('(').unwrap().1.split(',').map(squeezed);
-    let given: Vec<String> = parameters
-        .map(|p| {
-            let own = p.rsplit([' ', '*']).next().unwrap();
-            match p.strip_suffix(" *cells") {
-                Some(t) => format!("({} *)cells", t.replace("rb_part", "size_t")),
-                None => own.replace("cell_count", "2 * cell_count"),
-            }
-        })
-        .collect();
-    squeezed(body) == format!("return {name}_numbers({});", given.join(", "))
+    let (parameters, body) = taken_apart(inline);
+    let given = parameters.iter().map(|p| match p.strip_suffix(" *cells") {
+        Some(t) => format!("({} *)cells", t.replace("rb_part", "size_t")),
+        None => name_of(p).replace("cell_count", "2 * cell_count"),
+    });
+    body == format!("return {name}_numbers({});", given.collect::<Vec<_>>().join(", "))
+}
+
+/// What rb_is_due gives for a parameter of the call behind it: a member of the value or of the statement, or its own parameter, which has
+/// the same name and type. The value's text is given where the value is one, else no bytes.
+fn given_for(p: &str, statement: &[String], own: &[String]) -> String {
+    let has = |members: &[String]| members.iter().any(|m| m == p);
+    match (name_of(p), name_of(p).strip_prefix("value_")) {
+        ("file", _) => "file, file_bytes".to_string(),
+        ("due", _) => "&yes".to_string(),
+        (_, Some("text")) => "text ? value->text : file, text ? value->text_bytes : 0".to_string(),
+        (_, Some(member)) => format!("value->{member}"),
+        (name, None) if has(statement) => format!("statement->{name}"),
+        (name, None) if has(own) => name.to_string(),
+        (name, None) => format!("nothing for {name}"),
+    }
+}
+
+/// Whether rb_value is what the source's parameters of a value are, and rb_is_due gives each parameter what belongs there.
+fn decides_from_members(header: &str, inline: &str, source: &[String]) -> bool {
+    let (own, body) = taken_apart(inline);
+    let statement = declared(header, "rb_statement");
+    // The lengths have no names: each follows its bytes.
+    let named = || source.iter().filter(|p| *p != "size_t");
+    let mut value: Vec<String> = named().filter(|p| name_of(p).starts_with("value_")).map(|p| p.replace("value_", "")).collect();
+    value.push("size_t text_bytes".to_string());
+    let given: Vec<String> = named().map(|p| given_for(p, &statement, &own)).collect();
+    let asks = format!("rb_result result = rb_is_due_numbers({});", given.join(", "));
+    declared(header, "rb_value") == value
+        && body
+            == format!(
+                "bool text = value->kind == RB_OPERAND_STRING; uint32_t yes = 0; {asks} \
+                 if (result != RB_DONE) return result; *due = yes == 1; return RB_DONE;"
+            )
 }
 
 /// A parameter with the name left out where it is a length, a constant put in, and C's word for a class.
@@ -209,7 +253,8 @@ fn header_parameter(p: &str, constants: &BTreeMap<String, u64>) -> String {
     for (name, value) in constants {
         p = p.replace(&format!("[RB_{name}]"), &format!("[{value}]"));
     }
-    if p.starts_with("size_t ") && !p.contains('*') && !["at", "quote", "columns"].iter().any(|n| p.ends_with(&format!(" {n}"))) { "size_t".into() } else { p }
+    let is_length = p.starts_with("size_t ") && !p.contains('*') && !["at", "quote", "operand_quote", "columns"].contains(&name_of(&p));
+    if is_length { "size_t".into() } else { p }
 }
 
 fn header_calls(text: &str, constants: &BTreeMap<String, u64>) -> Calls {
@@ -279,6 +324,10 @@ fn main() {
         }
     }
     let (ours, theirs) = (rattle_calls(&rattle), header_calls(&header, &constants));
+    if !decides_from_members(&header, &inlines["rb_is_due"], &ours["rb_is_due_numbers"].0) {
+        println!("rb_is_due does not give each parameter the member of its name");
+        faults += 1;
+    }
     let names: std::collections::BTreeSet<_> = ours.keys().chain(theirs.keys()).collect();
     for name in names {
         if ours.get(name) != theirs.get(name) {

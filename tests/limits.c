@@ -55,6 +55,21 @@ static void jobs(void) {
     see("the longest text, and then a line break", RB_REFUSAL_BROKEN_STRING, text);
 }
 
+/* ---- whether to start */
+
+static void starts(void) {
+    static uint8_t text[RB_MAX_TEXT_BYTES + 1];
+    size_t n = add(0, "\"\"");
+    rb_statement clause = {.start_kind = RB_START_CONDITION, .operator_kind = RB_OPERATOR_NOT_EQUAL, .operand_kind = RB_OPERAND_STRING};
+    rb_value value = {.kind = RB_OPERAND_STRING, .text = text, .text_bytes = RB_MAX_TEXT_BYTES};
+    bool due = false;
+    memset(text, 't', sizeof text);
+    see("the longest text as a value", RB_DONE, rb_is_due(file, n, &clause, 20240430, 60000, 20240430, &value, &due));
+    see("it is not the empty one", true, due);
+    value.text_bytes++;
+    see("one byte more as a value", RB_REFUSAL_NOT_A_RECORD, rb_is_due(file, n, &clause, 20240430, 60000, 20240430, &value, &due));
+}
+
 /* ---- records and names */
 
 static rb_result write_error(uint32_t number, uint32_t error_class, uint32_t code, size_t text_bytes, size_t room, size_t *used) {
@@ -159,15 +174,16 @@ static void refusals(void) {
     rb_result most = UINT64_MAX - 255u + RB_REFUSAL_END_OF_FILE;
     see("the number beside the largest place", RB_REFUSAL_END_OF_FILE, rb_refusal_number(most));
     see("the largest place", ((uint64_t)1 << 56) - 1, rb_refusal_place(most));
-    for (uint32_t a = 0; a <= RB_REFUSAL_END_OF_FILE + 1; a++)
+    for (uint32_t a = 0; a <= RB_REFUSAL_NOT_COMPARABLE + 1; a++)
         for (uint32_t b = 0; b < a; b++) see("two refusals have the same words", false, !strcmp(rb_refusal_text(a), rb_refusal_text(b)));
-    see("unknown refusals have the same words", 0, (uint64_t)strcmp(rb_refusal_text(RB_REFUSAL_END_OF_FILE + 1), rb_refusal_text(UINT32_MAX)));
+    see("unknown refusals have the same words", 0, (uint64_t)strcmp(rb_refusal_text(RB_REFUSAL_NOT_COMPARABLE + 1), rb_refusal_text(UINT32_MAX)));
 }
 
 int main(void) {
     see("the archive's version", RB_VERSION, rb_version());
     see("the archive is the header's", true, rb_is_this_version());
     jobs();
+    starts();
     records();
     names();
     reports();

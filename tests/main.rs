@@ -8,16 +8,18 @@ mod library;
 mod random;
 mod reference;
 mod reports;
+mod starts;
 mod tables;
 
 use library::Library;
 use random::Random;
 
 /// The numbers that each call must have returned in a run, so that no refusal goes untried.
-const RETURNS: [(char, &[u64]); 16] = [
+const RETURNS: [(char, &[u64]); 17] = [
     ('J', &[0, 1, 2, 3, 4, 5, 6, 15, 16, 17, 18]),
     ('S', &[0, 1, 3, 4, 5, 11, 15, 16, 17, 18]),
     ('T', &[0, 1]),
+    ('B', &[0, 5, 7, 19]),
     ('D', &[0, 1]),
     ('W', &[0, 5, 7, 8]),
     ('R', &[0, 7]),
@@ -39,12 +41,14 @@ fn main() {
     let mut library = Library::start(&arguments[1..]);
     let examples = examples::all(&mut library);
     reports::every_change(&mut library);
+    let mut decided = starts::Decided::default();
     for round in 1..=rounds {
         library.round(round);
         let mut r = Random::new(round);
         calls::round(&mut r, &mut library);
         tables::round(&mut r, &mut library);
         reports::round(&mut r, &mut library);
+        starts::round(&mut r, &mut library, &mut decided);
         library.compare();
     }
     let mut untried = 0;
@@ -53,7 +57,9 @@ fn main() {
         untried += numbers.iter().filter(|n| !library.seen.contains_key(&(call, **n))).count();
         println!("{:<18} {}", name(call), counts.join("  "));
     }
-    println!("{} calls in {rounds} rounds, {examples} examples, {} differences, {untried} refusals untried", library.calls, library.differences);
+    println!("{:<18} due: {}  not due: {}", "start clauses", decided.due, decided.not_due);
+    untried += usize::from(decided.due == 0) + usize::from(decided.not_due == 0);
+    println!("{} calls in {rounds} rounds, {examples} examples, {} differences, {untried} answers untried", library.calls, library.differences);
     if library.differences > 0 || untried > 0 {
         std::process::exit(1);
     }
@@ -64,6 +70,7 @@ fn name(call: char) -> &'static str {
         'J' => "rb_read_job",
         'S' => "rb_read_statement",
         'T' => "rb_is_text_at",
+        'B' => "rb_is_due",
         'D' => "rb_is_real_date",
         'W' => "rb_write_record",
         'R' => "rb_read_record",

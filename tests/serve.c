@@ -277,6 +277,37 @@ static void report_written(void) {
     see_edges(&second);
 }
 
+/* A start clause is decided by its numbers, and then by the structures that hold them. What is lent there for yes or no has the byte 77
+ * before, which is neither. */
+static void start_decided(void) {
+    uint8_t *file = lend_in(&first), *text = lend_in(&second);
+    uint64_t a[14];
+    for (int i = 0; i < 14; i++) a[i] = number_in();
+    uint32_t due = 77;
+    number_out(rb_is_due_numbers(file, first.bytes, A(0), A(1), A(2), A(3), A(4), (size_t)a[5], A(6), (int64_t)a[7], A(8), A(9), A(10),
+                                 A(11), A(12), (int64_t)a[13], text, second.bytes, &due));
+    number_out(due);
+    rb_statement s;
+    STATEMENT(BEFORE);
+    s.start_kind = A(0);
+    s.start_time = A(1);
+    s.start_date = A(2);
+    s.operator_kind = A(3);
+    s.operand_kind = A(4);
+    s.operand_quote = (size_t)a[5];
+    s.scale = A(6);
+    s.mantissa = (int64_t)a[7];
+    rb_value value = {.kind = A(11), .scale = A(12), .mantissa = (int64_t)a[13], .text = text, .text_bytes = second.bytes};
+    bool is_due;
+    uint8_t left;
+    memset(&is_due, 77, 1);
+    number_out(rb_is_due(file, first.bytes, &s, A(8), A(9), A(10), &value, &is_due));
+    memcpy(&left, &is_due, 1);
+    number_out(left);
+    see_edges(&first);
+    see_edges(&second);
+}
+
 static void name_written(void) {
     uint64_t a[4];
     for (int i = 0; i < 4; i++) a[i] = number_in();
@@ -293,6 +324,7 @@ static void answered(int call) {
     case 'm': case 'p': case 'u': case 'a': case 'c': case 'i': table_call(call); break;
     case 'P': report_read(); break;
     case 'Q': report_written(); break;
+    case 'B': start_decided(); break;
     case 'O': name_written(); break;
     case 'D': {
         uint32_t n = U32;

@@ -1,4 +1,4 @@
-//! Document 01, with P1, P2 and P4 of 02, once more, in plain Rust: written from the documents' sentences, and from nothing that is proved.
+//! Document 01, with P1 to P4 and P7 of 02, once more, in plain Rust: written from the documents' sentences, and from nothing that is proved.
 //! It is meant to be read beside them, not to be fast.
 
 pub mod calendar;
@@ -6,6 +6,7 @@ pub mod job;
 pub mod name;
 pub mod record;
 pub mod report;
+pub mod start;
 pub mod table;
 pub mod token;
 

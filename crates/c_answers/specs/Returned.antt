@@ -1,6 +1,7 @@
 -- How an answer of document 01 reaches a C program: a number that is returned, and numbers lent for the rest.
 use Prim.Native.Nat.{ℕ, _+_, _*_, _%_}
 use mathlib.Core.Path.{_≡_}
+use mathlib.Core.Bool.{Bool, true, false}
 use mathlib.Core.List.{List}
 use lib.IntN.{ℤ}
 use Rattle.counts.specs.Result.{Result, refused, done}
@@ -48,6 +49,14 @@ GivesTaken a r number number' ticket ticket' command command' =
     × (ticket' ≡ leftIn ticket (λ x. x .1) a)
     × (command' ≡ leftIn command (λ x. x .2) a)
 
+-- of a decision: 1 where the clause is due, else 0
+abbrev pub dueNumber : Bool → ℕ
+dueNumber true = 1
+dueNumber false = 0
+
+abbrev pub GivesDue : Result Bool → ℕ → ℕ → ℕ → Type 0
+GivesDue a r due due' = (r ≡ returned a) × (due' ≡ leftIn due dueNumber a)
+
 -- of a report: its columns, and its lines of values
 abbrev pub GivesReport : Result (ℕ × ℕ) → ℕ → ℕ → ℕ → ℕ → ℕ → Type 0
 GivesReport a r columns columns' lines lines' =
@@ -65,4 +74,4 @@ GivesStatement a r numbers numbers' mantissa mantissa' =
 
 -- The version of the calls that the header declares: one more with each change of a name, a type, a number or a size there.
 abbrev pub version : ℕ
-version = 5
+version = 6

@@ -4,6 +4,7 @@ pub mod jobs;
 pub mod names;
 pub mod records;
 pub mod reports;
+pub mod starts;
 pub mod tables;
 
 use counts::Refusal;

@@ -2,4 +2,5 @@
 pub mod clauses;
 pub mod kinds;
 pub mod records;
+pub mod starts;
 pub mod statements;

@@ -39,6 +39,10 @@ use Rattle.item.proofs.NoTokens.{stray-exactly, open-string-exactly, broken-str
 use Rattle.item.proofs.NoStrings.{end-after-255, end-after-256, forbidden-after-255}
 use Rattle.token.specs.Token.{WholeString, isTextAt, contentAt}
 use Rattle.token.proofs.Whole.{whole-string-exactly, string-token-exactly}
+use Rattle.start.proofs.Compares.{one-of-three, not-below-and-equal, not-below-and-above, not-equal-and-above, at-least-is, at-most-is, transitive, zeros-change-nothing, ten-times-both}
+use Rattle.start.proofs.Permits.{number-exactly, text-exactly}
+use Rattle.start.proofs.Decides.{is-due-exactly, due-exactly, due-stays}
+use Rattle.start.proofs.Says.{decision-says-all}
 use Rattle.report.specs.Report.{Told}
 use Rattle.report.specs.Answer as report
 use Rattle.report_write.specs.Writing as reportWriting
@@ -53,12 +57,12 @@ use Rattle.session_histories.proofs.Fresh.{fresh-bytes}
 use Rattle.sessions.proofs.Laws.{in-range}
 use Rattle.sessions.specs.Table.{within, fresh}
 use Rattle.table_sound.specs.Bytes.{abs}
-use Rattle.claims.specs.Demands.{Demand1, Demand2, MissingClause, Hands, Reports, StoredDates}
+use Rattle.claims.specs.Demands.{Demand1, Demand2, MissingClause, Hands, Reports, Starts, StoredDates}
 use Rattle.claims.proofs.Demand1.{one-result}
 use Rattle.claims.proofs.Demand1Names.{read-name-exactly, write-name-exactly, refused-write-changes-nothing, read-name-determined, write-name-determined}
 use Rattle.claims.proofs.Demand1Records.{read-record-exactly, write-record-exactly, refused-record-changes-nothing, read-record-determined, write-record-determined}
 use Rattle.claims.proofs.Demand1Statements.{read-statement-exactly}
-use Rattle.claims.proofs.Fits.{read-name-fits, write-name-fits, read-record-fits, write-record-fits, read-job-fits, read-statement-fits, read-report-fits, write-report-fits, make-fits, place-fits, take-up-fits, answer-fits, collect-fits}
+use Rattle.claims.proofs.Fits.{read-name-fits, write-name-fits, read-record-fits, write-record-fits, read-job-fits, read-statement-fits, is-due-fits, read-report-fits, write-report-fits, make-fits, place-fits, take-up-fits, answer-fits, collect-fits}
 use Rattle.claims.proofs.Demand1Table.{make-exactly, place-exactly, take-up-exactly, answer-exactly, collect-exactly}
 use Rattle.claims.proofs.StandInReaders.{settings-differ}
 use Rattle.claims.proofs.StoredDates.{unreal-date-is-unsound, unsound-is-refused}
@@ -105,6 +109,7 @@ demand-1 =
             refusal-leaves = λ number place e. ap (λ (x : Reading). filled x offsets) e;
           };
       reads-statement = read-statement-exactly;
+      decides = is-due-exactly;
       reads-report = λ d file cells. record {
         answers = read-report-exactly d file (length cells);
         refusal-leaves = λ number place e. ap (λ (x : Result Told). report.filled x cells) e;
@@ -128,6 +133,7 @@ demand-1 =
       fits-write-record = write-record-fits commands;
       fits-read-job = read-job-fits;
       fits-read-statement = read-statement-fits;
+      fits-is-due = is-due-fits;
       fits-read-report = read-report-fits;
       fits-write-report = write-report-fits;
       fits-make = make-fits;
@@ -141,6 +147,7 @@ demand-1 =
       one-written-record = write-record-determined;
       one-job = one-result one-job-answer;
       one-statement = one-result one-statement-answer;
+      one-decision = one-result decision-says-all;
       one-read-report = one-result reports.read-says-all;
       one-written-report = one-result reports.write-says-all;
       one-made = make-determined;
@@ -274,6 +281,25 @@ report-files =
       break-exactly = break-exactly;
       rows-to-text-to-rows = rows-to-text-to-rows;
       text-to-rows-to-text = text-to-rows-to-text;
+    }
+
+-- ---- whether to start
+
+pub starts : Starts
+starts =
+    record {
+      due-exactly = due-exactly;
+      due-stays = due-stays;
+      permitted-numbers = number-exactly;
+      permitted-strings = text-exactly;
+      one-of-three = one-of-three;
+      never-two = λ v k. (not-below-and-equal v k, not-below-and-above v k, not-equal-and-above v k);
+      at-least = at-least-is;
+      at-most = at-most-is;
+      not-equal = λ v k. (λ h. h, λ h. h);
+      transitive = transitive;
+      zeros-change-nothing = zeros-change-nothing;
+      ten-times-both = ten-times-both;
     }
 
 -- ---- stored dates

@@ -11,11 +11,14 @@ use Rattle.sessions.specs.Table.{State}
 use Rattle.sessions.specs.declared.Answer.{Answer}
 use Rattle.record.specs.Record.{Content}
 use Rattle.grammar.specs.declared.StartClause.{StartClause}
+use Rattle.grammar.specs.Statement.{Start}
+use Rattle.start.specs.Due.{Given}
+use Rattle.start.specs.Rows.{DueRow, five, seven, nineteen}
 use Rattle.job_claims.specs.Verdict.{Verdict}
 use Rattle.job_claims.proofs.Claims.{refusal-fits, only}
 use Rattle.job_claims.proofs.Statements.{statement-refusal-fits}
 use Rattle.report_claims.specs.Rows as report-row
-use Rattle.claims.specs.Fits.{FitsUpTo, Fits}
+use Rattle.claims.specs.Fits.{FitsWithin, FitsUpTo, Fits}
 use Rattle.claims.specs.NameRows as name
 use Rattle.claims.specs.RecordRows as record-row
 use Rattle.claims.specs.TableRows as row
@@ -90,3 +93,8 @@ module _ (b : List ℕ) (σ : State) where
   collect-fits p t room number place (row.eleven a c) = without-place (omega arith) (omega arith)
   collect-fits p t room number place (row.ten a c d) = without-place (omega arith) (omega arith)
   collect-fits p t room number place (row.eight s a c d e) = without-place (omega arith) (omega arith)
+
+pub is-due-fits : (g : Given) (x : Start) → FitsWithin 19 0 (DueRow g x)
+is-due-fits g x number place (five f) = omega arith
+is-due-fits g x number place (seven r f) = omega arith
+is-due-fits g x number place (nineteen r p f) = omega arith

@@ -13,8 +13,9 @@ use Rattle.counts.specs.Refusals.{fileTooLong, tooFewPlaces, noToken, unexpecte
 use Rattle.counts.specs.Result.{Result, refused, done, counted}
 use Rattle.field.specs.Bytes.{ascii}
 use Rattle.field.specs.Part.{part, put}
-use Rattle.calendar.specs.Calendar.{realDate}
+use Rattle.calendar.specs.Calendar.{realDate, realTime}
 use Rattle.decimal.specs.Digits.{digits, value, plainWidth}
+use Rattle.moment.specs.Moment.{AtOrAfter}
 use Rattle.session_name.specs.Name as name
 use Rattle.session_name.specs.declared.Kind.{Kind}
 use Rattle.record.specs.Record.{Content, content, permitted, recordBytes, fixedLength}
@@ -25,7 +26,8 @@ use Rattle.record_read.specs.declared.Record.{Record}
 use Rattle.grammar.specs.declared.StartClause.{StartClause}
 use Rattle.grammar.specs.declared.StartClause.the-variants.{Required, Optional}
 use Rattle.grammar.specs.Grammar.Class.{number as noDate, date, unrealDate}
-use Rattle.grammar.specs.Statement.{Statement}
+use Rattle.grammar.specs.Statement.{Statement, Start, Operator, Number as Value}
+use Rattle.grammar.specs.Statement.Operator.{equal, notEqual, above, below, atLeast, atMost}
 use Rattle.grammar.specs.Productions.{Placed, File, Begins}
 use Rattle.grammar.specs.Reading.{OffsetsRead as Reading}
 use Rattle.grammar.specs.Reading.Last.{end}
@@ -44,6 +46,10 @@ use Rattle.meaning.specs.Paper.{paperStatement}
 use Rattle.job.specs.Job.{readJob, filled, paperJob}
 use Rattle.job.specs.Statement.{placed as placedAt, Tiled, readStatement, paperStatementAt, textAt}
 use Rattle.job.specs.declared.StatementAt.{StatementAt}
+use Rattle.start.specs.Due as start
+use Rattle.start.specs.Due.{NumberHolds, withZeros, tenTimes}
+use Rattle.start.specs.Decision.{decision, paperDecision}
+use Rattle.start.specs.Rows.{DueRow, DecidedDue}
 use Rattle.job_claims.specs.Verdict.{Verdict, Taken, Crowded}
 use Rattle.job_claims.specs.Rows.{One}
 use Rattle.job_claims.specs.Hands.{TokenBegins, Tells}
@@ -69,7 +75,7 @@ use Rattle.session_table.specs.Paper.{paperMade, paperPlaced, paperTakenUp, pap
 use Rattle.session_table.specs.declared.Collected.{Collected}
 use Rattle.session_histories.specs.Steps.{Step, stepBytes, bytesAfter}
 use Rattle.claims.specs.Exactly.{Exactly, Obeys, OneResult}
-use Rattle.claims.specs.Fits.{FitsUpTo, Fits}
+use Rattle.claims.specs.Fits.{FitsWithin, FitsUpTo, Fits}
 use Rattle.claims.specs.NameRows.{ReadNameRow, WriteNameRow}
 use Rattle.claims.specs.RecordRows.{ReadRow, WriteRow}
 use Rattle.claims.specs.StatementRows.{StatementRow}
@@ -89,6 +95,7 @@ pub record Demand1 : Type 0 where
   pub reads-job : (clause : StartClause) (file offsets : List ℕ) → let x = readJob clause file (length offsets) in
       Obeys (Verdict clause file (length offsets)) offsets (x, filled x offsets)
   pub reads-statement : (clause : StartClause) (file : List ℕ) (at : ℕ) → Exactly (readStatement clause file at) (StatementRow clause file at)
+  pub decides : (g : start.Given) (x : Start) → Exactly (decision g x) (DueRow g x)
   pub reads-report : (d : ℕ) (file cells : List ℕ) → let x = readReport d file (length cells) in
       Obeys (ReadReportRow d file (length cells)) cells (x, report.filled x cells)
   pub writes-report : (source cells : List ℕ) (many d : ℕ) (out : List ℕ) → let x = reportWriting.written source cells many d (length out) in
@@ -107,6 +114,7 @@ pub record Demand1 : Type 0 where
   pub fits-write-record : (c : Content) (room : ℕ) → Fits (WriteRow commands c room)
   pub fits-read-job : (clause : StartClause) (file : List ℕ) (room : ℕ) → Fits (Verdict clause file room)
   pub fits-read-statement : (clause : StartClause) (file : List ℕ) (at : ℕ) → Fits (StatementRow clause file at)
+  pub fits-is-due : (g : start.Given) (x : Start) → FitsWithin 19 0 (DueRow g x)
   pub fits-read-report : (d : ℕ) (file : List ℕ) (room : ℕ) → FitsUpTo (length file) (ReadReportRow d file room)
   pub fits-write-report : (source cells : List ℕ) (many d room : ℕ) → Fits (WriteReportRow source cells many d room)
   pub fits-make : (b : List ℕ) (max : ℕ) → Fits (MakeRow b max)
@@ -121,6 +129,7 @@ pub record Demand1 : Type 0 where
   pub one-written-record : OneResult (List ℕ) writing.paperRecordWritten
   pub one-job : OneResult (List ℕ) paperJob
   pub one-statement : OneResult (Unit {0}) paperStatementAt
+  pub one-decision : OneResult (Unit {0}) paperDecision
   pub one-read-report : OneResult (List ℕ) report.paperReportRead
   pub one-written-report : OneResult (List ℕ) reportWriting.paperReportWritten
   pub one-made : OneResult (List ℕ) paperMade
@@ -320,7 +329,31 @@ pub record Reports : Type 0 where
   pub text-to-rows-to-text : (d : ℕ) (text : List ℕ) (lent : ℕ) (t : Told) → readReport d text lent ≡ done t → (room : ℕ) → length text ≤ room
       → reportWriting.written text (t .cells) (t .columns) d room ≡ done text
 
--- ---- The 29th of February (document 02, P4). "Job files, records, answers .. all follow. .. Demand 2 reads with this calendar.": what is said above of a date
+-- ---- Whether to start (document 02, P3), of a start clause in the grammar's terms and of what is given with it. What is answered depends on these alone:
+-- "If the clock is set back, the decision follows the moment given, and an earlier "due" is not remembered."
+
+pub record Starts : Type 0 where
+  -- due if and only if nothing is refused and P3's sentence on this kind of clause holds
+  pub due-exactly : (g : start.Given) (x : Start) → decision g x ≡ done true ↔ DecidedDue g x
+  -- "at or after": what is due stays due at every real moment at or after the one given
+  pub due-stays : (g : start.Given) (x : Start) (date time : ℕ) → realDate date ≡ true → realTime time ≡ true → AtOrAfter date time (g .date) (g .time)
+      → decision g x ≡ done true → decision (start.at date time g) x ≡ done true
+  -- "a number or string that 01 doesn't permit": permitted are the numbers that some bytes read as, and the contents of strings
+  pub permitted-numbers : (n : Value) → start.Permitted (start.number n) ↔ start.Spelled n
+  pub permitted-strings : (c : List ℕ) → start.Permitted (start.text c) ↔ ((s : List ℕ) × WholeString s 0 c)
+  -- "numbers by exact value": of two exactly one is below, equal or above, and the other operators say what these say
+  pub one-of-three : (v k : Value) → NumberHolds below v k ⊎ (NumberHolds equal v k ⊎ NumberHolds above v k)
+  pub never-two : (v k : Value) → (NumberHolds below v k → NumberHolds equal v k → ⊥) × (NumberHolds below v k → NumberHolds above v k → ⊥)
+      × (NumberHolds equal v k → NumberHolds above v k → ⊥)
+  pub at-least : (v k : Value) → NumberHolds atLeast v k ↔ (NumberHolds above v k ⊎ NumberHolds equal v k)
+  pub at-most : (v k : Value) → NumberHolds atMost v k ↔ (NumberHolds below v k ⊎ NumberHolds equal v k)
+  pub not-equal : (v k : Value) → NumberHolds notEqual v k ↔ (NumberHolds equal v k → ⊥)
+  pub transitive : (o : Operator) → (o ≡ notEqual → ⊥) → (a b c : Value) → NumberHolds o a b → NumberHolds o b c → NumberHolds o a c
+  -- "trailing zeros included, so 2.50 equals 2.5": as many as one likes on either side; and ten times both is as it was
+  pub zeros-change-nothing : (o : Operator) (z y : ℕ) (v k : Value) → NumberHolds o (withZeros z v) (withZeros y k) ↔ NumberHolds o v k
+  pub ten-times-both : (o : Operator) (v k : Value) → NumberHolds o (tenTimes v) (tenTimes k) ↔ NumberHolds o v k
+
+-- ---- The 29th of February (document 02, P4). "Job files, records, answers and start decisions all follow. .. Demand 2 reads with this calendar.": what is said above of a date
 -- is said of `realDate`, in which February has the days that P4 gives it.
 
 pub record StoredDates : Type 0 where

@@ -1,20 +1,30 @@
 -- The examples that document 01 marks with a star, with P2's numbers, both ends, sign and zero of its numbers, and, of document 02, some report files of P1,
--- faults of P2, dates of P4 and missing start clauses of P7, in one table: the words, and the test that they are, on the definitions that the contracts
+-- faults of P2, start decisions of P3, dates of P4 and missing start clauses of P7, in one table: the words, and the test that they are, on the definitions that the contracts
 -- cite. `proofs/Examples` proves that every row holds, by one computation.
 use Prim.Native.Nat.{ℕ}
 use Prim.Native.String.{String}
-use mathlib.Core.Bool.{Bool, true, false, not, _&&_}
-use mathlib.Core.List.{List, [], _∷_}
+use mathlib.Core.Bool.{Bool, true, false, cond, not, _&&_}
+use mathlib.Core.List.{List, [], _∷_, _++_}
 use lib.Dec.{eqb}
 use lib.IntN.{ℤ, pos, negsuc, negℤ}
 use lib.ListN.{length}
 use Rattle.field.specs.Bytes.{ascii, same}
 use Rattle.calendar.specs.Calendar.{realDate, realTime}
 use Rattle.counts.specs.Limits.{statements}
-use Rattle.counts.specs.Refusals.{noToken, unexpected, notARecord, tooLittleRoom, outOfRange, openString, brokenString, misshapen, endOfFile}
+use Rattle.counts.specs.Refusals.{noToken, unexpected, notReal, notARecord, tooLittleRoom, outOfRange, openString, brokenString, misshapen, endOfFile, notComparable}
 use Rattle.counts.specs.Result.{Result, refused, done}
 use Rattle.grammar.specs.declared.StartClause.the-variants.{Required, Optional}
+use Rattle.grammar.specs.Statement.{Start}
+use Rattle.grammar.specs.Statement.Start.{immediate}
+use Rattle.statement.specs.declared.Statement.{Statement as StatementRead}
+use Rattle.statement.specs.declared.Statement.the-variants.{Job, Upload, Download, GetInfo, Abort}
+use Rattle.meaning.specs.Paper.{paperStart}
 use Rattle.job.specs.Job.{readJob}
+use Rattle.job.specs.Statement.{readStatement}
+use Rattle.job.specs.declared.StatementAt.{StatementAt}
+use Rattle.start.specs.Due as start
+use Rattle.start.specs.Due.{Compared, Given}
+use Rattle.start.specs.Decision.{given, decision}
 use Rattle.number.specs.Number.{numberOf}
 use Rattle.number.specs.declared.Number.{Number}
 use Rattle.record.specs.Record.{content, recordBytes}
@@ -89,6 +99,38 @@ abbrev pub isWrittenAgain : String → Result Told → Bool
 isWrittenAgain text (refused n p) = false
 isWrittenAgain text (done t) = isBytes (ascii text) (written (ascii text) (t .cells) (t .columns) 44 (length (ascii text)))
 
+-- the start clause of a statement that was read
+abbrev pub startOf : StatementRead → Start
+startOf (Upload file source start) = paperStart start
+startOf (Download file source start) = paperStart start
+startOf (Job name response) = immediate
+startOf (GetInfo file) = immediate
+startOf (Abort what name) = immediate
+
+-- an UPLOAD with these words for its start clause
+abbrev pub upload : String → List ℕ
+upload words = ascii "UPLOAD \"f\" ACTIVE START " ++ ascii words ++ ascii ";"
+
+-- its clause, read and then decided on what is given
+abbrev pub decidedOn : Given → Result StatementAt → Result Bool
+decidedOn g (refused n p) = refused n p
+decidedOn g (done x) = decision g (startOf (x .statement))
+
+-- at this moment, of a command that was taken up on 20261117, with this present value
+abbrev pub decided : String → (date time : ℕ) → Compared → Result Bool
+decided words date time v = let s = upload words in decidedOn (given s date time 20261117 v) (readStatement Required s 0)
+
+abbrev pub isDue : Bool → Result Bool → Bool
+isDue expected (refused n p) = false
+isDue expected (done due) = cond expected due (not due)
+
+-- with a number or a string for its present value, on 20261117 at 08:00:00
+abbrev pub withNumber : String → ℤ → ℕ → Result Bool
+withNumber words mantissa scale = decided words 20261117 80000 (start.number (record { mantissa = mantissa; scale = scale }))
+
+abbrev pub withText : String → String → Result Bool
+withText words value = decided words 20261117 80000 (start.text (ascii value))
+
 unfoldable pub examples : List Row
 examples =
     row "empty file: 18 at 0" (isRefused endOfFile 0 (job ""))
@@ -118,6 +160,29 @@ examples =
     ∷ row "the same by the earlier setting: 18 at the end" (isRefused endOfFile 37 (jobAsBefore "JOB a RESPONSE \"x\"; UPLOAD \"f\" ACTIVE"))
     ∷ row "UPLOAD with START IMMEDIATE: taken" (isTakenAt (0 ∷ 20 ∷ []) (job "JOB a RESPONSE \"x\"; UPLOAD \"f\" ACTIVE START IMMEDIATE;"))
     ∷ row "GETINFO has no start clause: taken" (isTakenAt (0 ∷ 20 ∷ []) (job "JOB a RESPONSE \"x\"; GETINFO \"f\";"))
+    ∷ row "START IMMEDIATE: due" (isDue true (withNumber "IMMEDIATE" (pos 0) 0))
+    ∷ row "TIME>= 08:00:00 at 08:00:00 of the day: due" (isDue true (decided "TIME>= 08:00:00" 20261117 80000 (start.text [])))
+    ∷ row "at 07:59:59: not due" (isDue false (decided "TIME>= 08:00:00" 20261117 75959 (start.text [])))
+    ∷ row "on the next day at 00:00:00: due" (isDue true (decided "TIME>= 08:00:00" 20261118 0 (start.text [])))
+    ∷ row "the clock set back by a day: not due" (isDue false (decided "TIME>= 08:00:00" 20261116 235959 (start.text [])))
+    ∷ row "with a date of its own: not due on the day before" (isDue false (decided "TIME>= 08:00:00 20261118" 20261117 235959 (start.text [])))
+    ∷ row "with a date of its own: due after it, at an earlier time" (isDue true (decided "TIME>= 08:00:00 20261115" 20261116 70000 (start.text [])))
+    ∷ row "2.50 equals 2.5" (isDue true (withNumber "p = 2.50" (pos 25) 1))
+    ∷ row "and is not unequal" (isDue false (withNumber "p != 2.50" (pos 25) 1))
+    ∷ row "-0.00 equals 0" (isDue true (withNumber "p = -0.00" (pos 0) 0))
+    ∷ row "9999999999999999 > 9.999999999999999" (isDue true (withNumber "p > 9.999999999999999" (pos 9999999999999999) 0))
+    ∷ row "-9999999999999999 < -9.999999999999999" (isDue true (withNumber "p < -9.999999999999999" (negℤ (pos 9999999999999999)) 0))
+    ∷ row "9.999999999999999 < 10" (isDue true (withNumber "p < 10" (pos 9999999999999999) 15))
+    ∷ row "-9.999999999999999 <= -10: not due" (isDue false (withNumber "p <= -10" (negℤ (pos 9999999999999999)) 15))
+    ∷ row "strings by their bytes" (isDue true (withText "p = \"mould 7\"" "mould 7") && isDue true (withText "p != \"mould 7\"" "mould 72"))
+    ∷ row "an order between strings: 19" (isRefused notComparable 0 (withText "p < \"b\"" "a"))
+    ∷ row "a number against a string: 19" (isRefused notComparable 0 (withNumber "p = \"1\"" (pos 1) 0))
+    ∷ row "a value of 17 digits: 7, before 19" (isRefused notARecord 0 (withNumber "p = \"1\"" (pos 10000000000000000) 0))
+    ∷ row "a value of scale 16: 7" (isRefused notARecord 0 (withNumber "p = 1" (pos 1) 16))
+    ∷ row "a quote in a value: 7" (isRefused notARecord 0 (withText "p = \"a\"" "a\""))
+    ∷ row "24:00:00 at present: 5, before 7" (isRefused notReal 0 (decided "p = 1" 20261117 240000 (start.text (ascii "a\""))))
+    ∷ row "taken up on 20260229: 5, also where the clause is IMMEDIATE"
+    (isRefused notReal 0 (decision (given [] 20261117 80000 20260229 (start.text [])) immediate))
     ∷ row "PROCESSED, n 1, empty text: 43 bytes" (eqb (recordLength Processed) 43)
     ∷ row "ERROR: 51" (eqb (recordLength (Error 6 16)) 51)
     ∷ row "date 20240431: refused" (not (realDate 20240431))

@@ -26,7 +26,8 @@ notReal = 5
 abbrev pub tooManyStatements : ℕ
 tooManyStatements = 6
 
--- "record field out of range, or bytes that are not a record"; P1: "7, reading with the start of the first line that doesn't fit"
+-- "record field out of range, or bytes that are not a record"; P1: "7, reading with the start of the first line that doesn't fit"; P3: "7 for a number or
+-- string that 01 doesn't permit"
 abbrev pub notARecord : ℕ
 notARecord = 7
 
@@ -73,6 +74,10 @@ misshapen = 17
 -- P2: "18 is the end of file"
 abbrev pub endOfFile : ℕ
 endOfFile = 18
+
+-- P3: "19 for number against string or an order between strings"
+abbrev pub notComparable : ℕ
+notComparable = 19
 
 -- "A refusal returns its number, the place for 3 to 6 in a file (else 0)"; P2: "15 to 17 where 3 stood and 18 where 4 did"
 abbrev pub refusal : ℕ → ℕ → Refusal

@@ -70,7 +70,8 @@ pub const NOT_REAL: u32 = 5;
 // any token after 64 statements
 pub const TOO_MANY_STATEMENTS: u32 = 6;
 
-// record field out of range, or bytes that are not a record; a report: its first line that does not fit
+// record field out of range, or bytes that are not a record; a report: its first line that does not fit; a start decision: a number or string
+// that 01 does not permit
 pub const NOT_A_RECORD: u32 = 7;
 
 // lent output too short for the whole answer
@@ -105,3 +106,6 @@ pub const MISSHAPEN: u32 = 17;
 
 // the end of the file, that no legal file has after the tokens before it
 pub const END_OF_FILE: u32 = 18;
+
+// a number against a string, or an order between strings
+pub const NOT_COMPARABLE: u32 = 19;

@@ -94,7 +94,7 @@ digit-byte d low high = rw (le-leb 48 d low, le-leb d 57 high)
 
 -- ---- a field of w bytes reads as v exactly where its bytes are v's w digits
 
-all-digits : (w n : ℕ) → allDigits (digits w n) ≡ true
+pub all-digits : (w n : ℕ) → allDigits (digits w n) ≡ true
 unfolding allDigits digits
 all-digits zero n = refl
 all-digits (suc w) n =

@@ -1,4 +1,4 @@
-// A date yyyymmdd and a time hhmmss as two numbers: whether they are real, and as they stand in a record, read and written.
+// A date yyyymmdd and a time hhmmss as two numbers: whether they are real, which is later, and as they stand in a record, read and written.
 use labelled::FieldRead;
 ghost use mathlib.Core.Path.{_≡_};
 ghost use mathlib.Core.Bool.{true};
@@ -6,7 +6,7 @@ ghost use mathlib.Core.List.{_++_};
 ghost use Prim.Native.Nat.{_+_, _*_, _≤_, _<_};
 ghost use lib.ListN.{length};
 ghost use Rattle.field.specs.Part.{Wrote};
-ghost use Rattle.moment.specs.Moment.{realMoment, timeBytes, momentBytes};
+ghost use Rattle.moment.specs.Moment.{realMoment, timeBytes, momentBytes, atOrAfter};
 ghost use Rattle.moment.specs.Reading.{timeAfter, momentAfter};
 
 pub enum MomentRead {
@@ -21,6 +21,16 @@ pub fn is_real(date: u32, time: u32) -> bool
         return calendar::is_real_time(time);
     }
     false
+}
+
+// Whether a date and time are at or after another, compared date first.
+pub fn is_at_or_after(date: u32, time: u32, from_date: u32, from_time: u32) -> bool
+    ensures { λ r. ⌜ r ≡ atOrAfter date time «from_date» «from_time» ⌝ }
+{
+    if date == from_date {
+        return from_time <= time;
+    }
+    from_date < date
 }
 
 fn hhmmss(hour: u32, minute: u32, second: u32) -> u32

@@ -4,12 +4,13 @@ pub mod moments;
 pub mod names;
 pub mod records;
 pub mod reports;
+pub mod starts;
 pub mod tables;
 
 ghost use mathlib.Core.Path.{_≡_};
 ghost use Rattle.c_answers.specs.Returned.{version};
 
-pub const VERSION: u32 = 5;
+pub const VERSION: u32 = 6;
 
 // The version that a header is held against.
 #[no_mangle]

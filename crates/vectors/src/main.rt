@@ -1,6 +1,6 @@
 // Runs the examples: each argument names a file of data/, which is read as a record where its name ends with .rec, as a report where it ends with
-// .rep, as the date of an answer that is given (.ans) or that a table stores (.tab), and else as a job file, and a line says what it read as. A job
-// file's start clauses are required; where it reads as something else with optional ones, the line goes on with that. The files are the examples of
+// .rep, as the date of an answer that is given (.ans) or that a table stores (.tab), as a start clause to be decided (.due), and else as a job file,
+// and a line says what it read as. A job file's start clauses are required; where it reads as something else with optional ones, the line goes on with that. The files are the examples of
 // documents 01 and 02 that are not proved, the traps, the places where two readers could differ, and the job files, records and reports of
 // EUROMAP 63's worked examples with their scan damage mended.
 use counts::CommandNumber;
@@ -11,6 +11,7 @@ use grammar::StartClause;
 use io::print_decimal;
 use io::write_all;
 use job::JobAnswer;
+use job::StatementAnswer;
 use labelled::FieldRead;
 use libc::STDOUT_FILENO;
 use record::Outcome;
@@ -21,6 +22,11 @@ use session_table::Collected;
 use session_table::SessionPlaced;
 use session_table::TakenUp;
 use sessions::Answer;
+use start::Decision;
+use start::Present;
+use statement::Operand;
+use statement::Start;
+use statement::Statement;
 use table_layout::Table;
 
 // What an example is: by the end of its name, and a report's delimiter by its beginning.
@@ -30,6 +36,7 @@ enum Kind {
     Report(u8),
     Answer,
     Stored,
+    Decision,
 }
 
 fn print_number(n: u64) {
@@ -265,6 +272,135 @@ fn run_stored(file: &[u8]) {
     collect(&mut table);
 }
 
+// ---- start clauses
+
+// What a file says of the moment: NOW, date and time, TAKEN, and the date on which the command was taken up. A number that is not there is one that is
+// not real.
+struct Moment {
+    date: u32,
+    time: u32,
+    taken_up: u32,
+}
+
+const NOT_THERE: u32 = 99999999;
+
+fn found(r: FieldRead) -> u32 {
+    let FieldRead::Field(n) = r else {
+        return NOT_THERE;
+    };
+    n
+}
+
+fn moment_in(file: &[u8]) -> Moment {
+    Moment {
+        date: found(labelled::field_after(file, 0, b"NOW ", 8)),
+        time: found(labelled::field_after(file, 12, b" ", 6)),
+        taken_up: found(labelled::field_after(file, 19, b" TAKEN ", 8)),
+    }
+}
+
+// The start clause of a statement, and the place after its ;.
+struct Clause {
+    start: Start,
+    next: usize,
+}
+
+fn start_of(s: Statement) -> Start {
+    match s {
+        Statement::Job {
+            name: _,
+            response: _,
+        } => Start::Immediate,
+        Statement::Upload {
+            file: _,
+            source: _,
+            start,
+        } => start,
+        Statement::Download {
+            file: _,
+            source: _,
+            start,
+        } => start,
+        Statement::GetInfo { file: _ } => Start::Immediate,
+        Statement::Abort { what: _, name: _ } => Start::Immediate,
+    }
+}
+
+fn clause_at(file: &[u8], at: usize) -> Clause {
+    match job::read_statement(file, StartClause::Required, at) {
+        StatementAnswer::Read(x) => {
+            let s = x.statement;
+            Clause {
+                start: start_of(s),
+                next: x.next,
+            }
+        }
+        StatementAnswer::Refused(refusal) => {
+            print_refusal(refusal.number, refusal.place);
+            Clause {
+                start: Start::Immediate,
+                next: at,
+            }
+        }
+    }
+}
+
+// The constant of a condition, which stands for the parameter's present value.
+fn constant_of(s: Start) -> Operand {
+    match s {
+        Start::Immediate => Operand::Text(0),
+        Start::At(_, _) => Operand::Text(0),
+        Start::When(c) => {
+            let constant = c.operand;
+            constant
+        }
+    }
+}
+
+fn decide(file: &[u8], clause: Start, m: Moment, value: Operand) -> Decision {
+    match value {
+        Operand::Number(n) => start::is_due(
+            clause,
+            file,
+            m.date,
+            m.time,
+            m.taken_up,
+            Present::Number(n),
+            &file[..0],
+        ),
+        Operand::Text(quote) => start::is_due(
+            clause,
+            file,
+            m.date,
+            m.time,
+            m.taken_up,
+            Present::Text,
+            job::text_at(file, quote),
+        ),
+    }
+}
+
+fn print_decision(d: Decision) {
+    match d {
+        Decision::Due => {
+            write_all(STDOUT_FILENO, b" due");
+        }
+        Decision::NotDue => {
+            write_all(STDOUT_FILENO, b" not due");
+        }
+        Decision::Refused(refusal) => print_refusal(refusal.number, refusal.place),
+    }
+}
+
+// After the moment two statements: the constant of the first one's condition is the present value, and the clause of the second is decided.
+fn run_decision(file: &[u8]) {
+    let first = clause_at(file, 34);
+    let second = clause_at(file, first.next);
+    let value = first.start;
+    let clause = second.start;
+    print_decision(decide(file, clause, moment_in(file), constant_of(value)));
+}
+
 fn run_file(fd: i32, kind: Kind) {
     let mut file = io::large_buffer();
     let n = io::read_full(fd, &mut file);
@@ -274,6 +410,7 @@ fn run_file(fd: i32, kind: Kind) {
         Kind::Report(delimiter) => run_report(&file[..n], delimiter),
         Kind::Answer => run_answer(&file[..n]),
         Kind::Stored => run_stored(&file[..n]),
+        Kind::Decision => run_decision(&file[..n]),
     }
     write_all(STDOUT_FILENO, b"\n");
 }
@@ -315,6 +452,9 @@ fn kind_of(name: &[u8]) -> Kind {
     }
     if ends_with(name, b".tab") {
         return Kind::Stored;
+    }
+    if ends_with(name, b".due") {
+        return Kind::Decision;
     }
     Kind::Job
 }

@@ -1,0 +1,9 @@
+pub mod Signs
+pub mod Growing
+pub mod Levels
+pub mod Tested
+pub mod Compares
+pub mod Permits
+pub mod Decides
+pub mod Says
+pub mod Steps
