@@ -23,7 +23,7 @@ use Rattle.grammar.specs.Statement.{Operator, Start}
 use Rattle.grammar.specs.Statement.Operator.{equal, notEqual, above, below, atLeast, atMost}
 use Rattle.grammar.specs.Statement.Start.{immediate, atTime, atTimeOn, when}
 use Rattle.job.specs.Statement.{textAt}
-use Rattle.start.specs.Due.{Compared, number, text, Given, TextHolds, Holds, NoOrder, Comparable, Permitted, ConstantIs, OwnReal, Real, AllPermitted, AllComparable, Due, at}
+use Rattle.start.specs.Due.{Compared, number, text, Given, TextHolds, Holds, Comparable, Permitted, ConstantIs, OwnReal, Real, AllPermitted, AllComparable, Due, at}
 use Rattle.start.specs.Decision.{bySame, noOrder, holds, comparable, valuePermitted, constantPermitted, constantOf, conditionRefusal, ownReal, allReal, clauseRefusal, dueRefusal, isDue, decision}
 use Rattle.start.specs.Rows.{DueRow, five, seven, nineteen, due, not-due, DecidedDue}
 use Rattle.start.proofs.Tested.{number-exactly}
@@ -38,24 +38,35 @@ refuted false f = refl
 same-exactly : (k v : List ℕ) → same k v ≡ true ↔ (v ≡ k)
 same-exactly k v = (λ h. sym (same-true k v h), λ e. rw e (same-refl k))
 
-no-order-exactly : (o : Operator) → noOrder o ≡ true ↔ NoOrder o
-no-order-exactly equal = (λ h. tt, λ h. refl)
-no-order-exactly notEqual = (λ h. tt, λ h. refl)
-no-order-exactly above = (λ h. false≢true h, λ h. absurd h)
-no-order-exactly below = (λ h. false≢true h, λ h. absurd h)
-no-order-exactly atLeast = (λ h. false≢true h, λ h. absurd h)
-no-order-exactly atMost = (λ h. false≢true h, λ h. absurd h)
+no-order-exactly : (o : Operator) → noOrder o ≡ true ↔ ((o ≡ equal) ⊎ (o ≡ notEqual))
+no-order-exactly o = (there o, back)
+  where
+    there : (o : Operator) → noOrder o ≡ true → (o ≡ equal) ⊎ (o ≡ notEqual)
+    there equal h = inl refl
+    there notEqual h = inr refl
+    there above h = absurd (false≢true h)
+    there below h = absurd (false≢true h)
+    there atLeast h = absurd (false≢true h)
+    there atMost h = absurd (false≢true h)
+
+    back : (o ≡ equal) ⊎ (o ≡ notEqual) → noOrder o ≡ true
+    back (inl e) = rw e
+    back (inr e) = rw e
 
 text-exactly : (o : Operator) (v k : List ℕ) → bySame o (same k v) ≡ true ↔ TextHolds o v k
-text-exactly equal v k = same-exactly k v
-text-exactly notEqual v k = (
-  λ h e. false≢true (sym (not-true (same k v) h) ∙ same-exactly k v .1 e),
-  λ f. rw (refuted (same k v) (λ h. f (same-exactly k v .0 h))),
-)
-text-exactly above v k = (λ h. false≢true h, λ h. absurd h)
-text-exactly below v k = (λ h. false≢true h, λ h. absurd h)
-text-exactly atLeast v k = (λ h. false≢true h, λ h. absurd h)
-text-exactly atMost v k = (λ h. false≢true h, λ h. absurd h)
+text-exactly o v k = (there o, back)
+  where
+    there : (o : Operator) → bySame o (same k v) ≡ true → TextHolds o v k
+    there equal h = inl (refl, same-exactly k v .0 h)
+    there notEqual h = inr (refl, λ e. false≢true (sym (not-true (same k v) h) ∙ same-exactly k v .1 e))
+    there above h = absurd (false≢true h)
+    there below h = absurd (false≢true h)
+    there atLeast h = absurd (false≢true h)
+    there atMost h = absurd (false≢true h)
+
+    back : TextHolds o v k → bySame o (same k v) ≡ true
+    back (inl h) = rw (h .0) (same-exactly k v .1 (h .1))
+    back (inr h) = rw (h .0, refuted (same k v) (λ e. h .1 (same-exactly k v .0 e)))
 
 holds-exactly : (o : Operator) (v k : Compared) → holds o v k ≡ true ↔ Holds o v k
 holds-exactly o (number v) (number k) = number-exactly o v k

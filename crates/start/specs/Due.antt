@@ -4,6 +4,7 @@ use Prim.Native.Nat.{ℕ, _+_, _^_, _≤_, _<_}
 use mathlib.Core.Path.{_≡_}
 use mathlib.Core.Bool.{Bool, true}
 use mathlib.Core.List.{List, List·Memᴰ}
+use mathlib.Core.Logic.{_⊎_}
 use lib.IntN.{ℤ, pos, natAbs, _*ℤ_}
 use lib.ListN.{length}
 use lib.Signed.{_≤ℤ_, _<ℤ_}
@@ -61,12 +62,7 @@ tenTimes n = record { mantissa = n .mantissa *ℤ pos 10; scale = n .scale }
 
 -- "strings by their bytes, with = and != only"
 abbrev pub TextHolds : Operator → List ℕ → List ℕ → Type 0
-TextHolds equal v k = v ≡ k
-TextHolds notEqual v k = v ≡ k → ⊥
-TextHolds above v k = ⊥
-TextHolds below v k = ⊥
-TextHolds atLeast v k = ⊥
-TextHolds atMost v k = ⊥
+TextHolds o v k = ((o ≡ equal) × (v ≡ k)) ⊎ ((o ≡ notEqual) × (v ≡ k → ⊥))
 
 abbrev pub Holds : Operator → Compared → Compared → Type 0
 Holds o (number v) (number k) = NumberHolds o v k
@@ -74,19 +70,10 @@ Holds o (text v) (text k) = TextHolds o v k
 Holds o (number v) (text k) = ⊥
 Holds o (text v) (number k) = ⊥
 
--- no "order between strings"
-abbrev pub NoOrder : Operator → Type 0
-NoOrder equal = Unit {0}
-NoOrder notEqual = Unit {0}
-NoOrder above = ⊥
-NoOrder below = ⊥
-NoOrder atLeast = ⊥
-NoOrder atMost = ⊥
-
 -- neither "number against string" nor "an order between strings"
 abbrev pub Comparable : Operator → Compared → Compared → Type 0
 Comparable o (number v) (number k) = Unit {0}
-Comparable o (text v) (text k) = NoOrder o
+Comparable o (text v) (text k) = (o ≡ equal) ⊎ (o ≡ notEqual)
 Comparable o (number v) (text k) = ⊥
 Comparable o (text v) (number k) = ⊥
 
