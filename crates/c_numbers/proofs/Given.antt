@@ -2,11 +2,10 @@
 -- decided as it was read.
 use Prim.Native.Nat.{ℕ}
 use mathlib.Core.Path.{_≡_, refl, ap, _∙_}
-use mathlib.Core.Bool.{Bool, true, false, _&&_}
-use lib.Dec.{eqb, leb}
+use mathlib.Core.Bool.{true, false, _&&_}
+use lib.Dec.{leb}
 use lib.IntN.{ℤ}
 use borrow.Author.Tests.{eq-eqb, ne-eqb}
-use Rattle.counts.specs.Result.{Result}
 use Rattle.number.specs.declared.Number.{Number as NumberRead}
 use Rattle.token.specs.declared.Operator.{Operator}
 use Rattle.token.specs.declared.Operator.the-variants.{Equal, NotEqual, Above, Below, AtLeast, AtMost}
@@ -14,13 +13,11 @@ use Rattle.statement.specs.declared.Part.{Part}
 use Rattle.statement.specs.declared.Day.the-variants.{Any, On}
 use Rattle.statement.specs.declared.Operand.{Operand}
 use Rattle.statement.specs.declared.Operand.the-variants.{Number, Text}
-use Rattle.statement.specs.declared.Condition.{Condition}
 use Rattle.statement.specs.declared.Start.{Start}
 use Rattle.statement.specs.declared.Start.the-variants.{Immediate, At, When}
 use Rattle.meaning.specs.Paper.{paperStart}
 use Rattle.start.specs.Due.{Given}
 use Rattle.start.specs.Decision.{allReal, dueRefusal, decision}
-use Rattle.start.specs.declared.Present.{Present}
 use Rattle.start.specs.declared.Present.the-variants as present
 use Rattle.c_numbers.specs.Statements.{startFields}
 use Rattle.c_numbers.specs.Starts.{unpermitted, numberGiven, operatorGiven, operandGiven, conditionOf, conditionGiven, startGiven, presentGiven}

@@ -65,6 +65,7 @@ use Rattle.claims.proofs.Demand1Statements.{read-statement-exactly}
 use Rattle.claims.proofs.Fits.{read-name-fits, write-name-fits, read-record-fits, write-record-fits, read-job-fits, read-statement-fits, is-due-fits, read-report-fits, write-report-fits, make-fits, place-fits, take-up-fits, answer-fits, collect-fits}
 use Rattle.claims.proofs.Demand1Table.{make-exactly, place-exactly, take-up-exactly, answer-exactly, collect-exactly}
 use Rattle.claims.proofs.StandInReaders.{settings-differ}
+use Rattle.claims.proofs.Starts.{read-in-order}
 use Rattle.claims.proofs.StoredDates.{unreal-date-is-unsound, unsound-is-refused}
 use Rattle.claims.proofs.Demand1TableResults.{make-refused-keeps, place-refused-keeps, take-up-refused-keeps, answer-refused-keeps, collect-refused-keeps, make-determined, place-determined, take-up-determined, answer-determined, collect-determined}
 
@@ -289,6 +290,7 @@ pub starts : Starts
 starts =
     record {
       due-exactly = due-exactly;
+      read-in-order = read-in-order;
       due-stays = due-stays;
       permitted-numbers = number-exactly;
       permitted-strings = text-exactly;

@@ -4,6 +4,7 @@ pub mod Demand1Names
 pub mod Demand1Records
 pub mod Demand1Table
 pub mod Demand1TableResults
+pub mod Starts
 pub mod StoredDates
 pub mod Demand1Statements
 pub mod Fits

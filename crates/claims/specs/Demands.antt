@@ -335,6 +335,10 @@ pub record Reports : Type 0 where
 pub record Starts : Type 0 where
   -- due if and only if nothing is refused and P3's sentence on this kind of clause holds
   pub due-exactly : (g : start.Given) (x : Start) → decision g x ≡ done true ↔ DecidedDue g x
+  -- of a clause that was read nothing is refused but for what is given with it: its own time and date are real, and its constant is permitted
+  pub read-in-order : (clause : StartClause) (s : List ℕ) (at : ℕ) (x : StatementRead) (o e : ℕ) → readStatement clause s at ≡ done (placedAt x o e)
+      → (y : Start) → start.HasClause (paperStatement x) y
+      → start.OwnReal y × ((g : start.Given) → g .bytes ≡ s → start.Permitted (g .value) → start.AllPermitted g y)
   -- "at or after": what is due stays due at every real moment at or after the one given
   pub due-stays : (g : start.Given) (x : Start) (date time : ℕ) → realDate date ≡ true → realTime time ≡ true → AtOrAfter date time (g .date) (g .time)
       → decision g x ≡ done true → decision (start.at date time g) x ≡ done true

@@ -1,13 +1,13 @@
 -- Laws of comparing numbers by exact value: of two exactly one of three, an order that goes on from number to number, and nothing changed by trailing zeros
 -- or by taking both ten times.
-use Prim.Native.Nat.{ℕ, suc, _+_, _*_, _^_, _<_}
+use Prim.Native.Nat.{ℕ, _+_, _*_, _^_, _<_}
 use mathlib.Core.Path.{_≡_, refl, sym, ap, ap₂, _∙_}
-use mathlib.Core.Bool.{Bool, true, false, not, _&&_, _||_, false≢true}
+use mathlib.Core.Bool.{Bool, true, false, not, false≢true}
 use mathlib.Core.Logic.{_⊎_, _↔_, inl, inr}
 use native.Mathlib.Omega.{arith}
 use native.Mathlib.Nat.{mul-assoc, mul-comm}
 use lib.Pow.{pow-add}
-use lib.IntN.{ℤ, pos, negsuc, natAbs, _*ℤ_}
+use lib.IntN.{ℤ, pos, negsuc, _*ℤ_}
 use lib.Signed.{ltZ}
 use borrow.Author.Tests.{not-true}
 use Rattle.laws.proofs.Choose.{and-left, and-right}

@@ -1,110 +1,23 @@
 -- The decision is made exactly as P3's rows say; once due, a clause stays due.
-use Prim.Native.Nat.{ℕ, _≤_, _<_}
-use mathlib.Core.Path.{_≡_, refl, sym, ap, _∙_}
-use mathlib.Core.Bool.{Bool, true, false, cond, not, _&&_, false≢true}
-use mathlib.Core.List.{List}
-use mathlib.Core.Logic.{_⊎_, _↔_, inl, inr}
-use native.Mathlib.Omega.{arith}
-use borrow.Author.Tests.{not-true}
+use Prim.Native.Nat.{ℕ}
+use mathlib.Core.Path.{_≡_, refl, sym, _∙_}
+use mathlib.Core.Bool.{Bool, true, false, cond, _&&_, false≢true}
+use mathlib.Core.Logic.{_↔_}
 use lib.Dec.{eqb}
 use Rattle.counts.specs.Refusals.{notReal, notARecord, notComparable}
 use Rattle.counts.specs.Result.{Result, refused, done}
 use Rattle.counts.proofs.Results.{refused-not-done, done-same}
 use Rattle.laws.proofs.Choose.{and-left, and-right, and-both, halves}
 use Rattle.calendar.specs.Calendar.{realDate, realTime}
-use Rattle.field.specs.Bytes.{same}
-use Rattle.field.proofs.Same.{same-refl, same-true}
 use Rattle.moment.specs.Moment.{realMoment, AtOrAfter}
 use Rattle.moment.proofs.Later.{at-or-after, at-or-after-on}
-use Rattle.token.specs.Token.{WholeString, isTextAt, contentAt}
-use Rattle.token.proofs.Whole.{whole-string-exactly}
-use Rattle.grammar.specs.Statement as read
-use Rattle.grammar.specs.Statement.{Operator, Start}
-use Rattle.grammar.specs.Statement.Operator.{equal, notEqual, above, below, atLeast, atMost}
+use Rattle.grammar.specs.Statement.{Start}
 use Rattle.grammar.specs.Statement.Start.{immediate, atTime, atTimeOn, when}
-use Rattle.job.specs.Statement.{textAt}
-use Rattle.start.specs.Due.{Compared, number, text, Given, TextHolds, Holds, Comparable, Permitted, ConstantIs, OwnReal, Real, AllPermitted, AllComparable, Due, at}
-use Rattle.start.specs.Decision.{bySame, noOrder, holds, comparable, valuePermitted, constantPermitted, constantOf, conditionRefusal, ownReal, allReal, clauseRefusal, dueRefusal, isDue, decision}
+use Rattle.start.specs.Due.{Given, OwnReal, Real, AllPermitted, AllComparable, Due, at}
+use Rattle.start.specs.Decision.{comparable, valuePermitted, constantPermitted, constantOf, conditionRefusal, ownReal, allReal, clauseRefusal, dueRefusal, isDue, decision}
 use Rattle.start.specs.Rows.{DueRow, five, seven, nineteen, due, not-due, DecidedDue}
-use Rattle.start.proofs.Tested.{number-exactly}
-use Rattle.start.proofs.Permits.{number-permitted, value-permitted}
-
-refuted : (b : Bool) → (b ≡ true → ⊥) → b ≡ false
-refuted true f = absurd (f refl)
-refuted false f = refl
-
--- ---- what is compared
-
-same-exactly : (k v : List ℕ) → same k v ≡ true ↔ (v ≡ k)
-same-exactly k v = (λ h. sym (same-true k v h), λ e. rw e (same-refl k))
-
-no-order-exactly : (o : Operator) → noOrder o ≡ true ↔ ((o ≡ equal) ⊎ (o ≡ notEqual))
-no-order-exactly o = (there o, back)
-  where
-    there : (o : Operator) → noOrder o ≡ true → (o ≡ equal) ⊎ (o ≡ notEqual)
-    there equal h = inl refl
-    there notEqual h = inr refl
-    there above h = absurd (false≢true h)
-    there below h = absurd (false≢true h)
-    there atLeast h = absurd (false≢true h)
-    there atMost h = absurd (false≢true h)
-
-    back : (o ≡ equal) ⊎ (o ≡ notEqual) → noOrder o ≡ true
-    back (inl e) = rw e
-    back (inr e) = rw e
-
-text-exactly : (o : Operator) (v k : List ℕ) → bySame o (same k v) ≡ true ↔ TextHolds o v k
-text-exactly o v k = (there o, back)
-  where
-    there : (o : Operator) → bySame o (same k v) ≡ true → TextHolds o v k
-    there equal h = inl (refl, same-exactly k v .0 h)
-    there notEqual h = inr (refl, λ e. false≢true (sym (not-true (same k v) h) ∙ same-exactly k v .1 e))
-    there above h = absurd (false≢true h)
-    there below h = absurd (false≢true h)
-    there atLeast h = absurd (false≢true h)
-    there atMost h = absurd (false≢true h)
-
-    back : TextHolds o v k → bySame o (same k v) ≡ true
-    back (inl h) = rw (h .0) (same-exactly k v .1 (h .1))
-    back (inr h) = rw (h .0, refuted (same k v) (λ e. h .1 (same-exactly k v .0 e)))
-
-holds-exactly : (o : Operator) (v k : Compared) → holds o v k ≡ true ↔ Holds o v k
-holds-exactly o (number v) (number k) = number-exactly o v k
-holds-exactly o (text v) (text k) = text-exactly o v k
-holds-exactly o (number v) (text k) = (λ h. false≢true h, λ h. absurd h)
-holds-exactly o (text v) (number k) = (λ h. false≢true h, λ h. absurd h)
-
-comparable-exactly : (o : Operator) (v k : Compared) → comparable o v k ≡ true ↔ Comparable o v k
-comparable-exactly o (number v) (number k) = (λ h. tt, λ h. refl)
-comparable-exactly o (text v) (text k) = no-order-exactly o
-comparable-exactly o (number v) (text k) = (λ h. false≢true h, λ h. absurd h)
-comparable-exactly o (text v) (number k) = (λ h. false≢true h, λ h. absurd h)
-
--- ---- the constant
-
--- where a constant stands it is the one that code sees
-shown : (s : List ℕ) (quote : ℕ) (t : List ℕ) → (isTextAt s quote ≡ true) × (contentAt s quote ≡ t) → textAt s quote ≡ t
-shown s quote t h = rw (h .0) (h .1)
-
-constant-is : (s : List ℕ) (c : read.Value) (k : Compared) → ConstantIs s c k → k ≡ constantOf s c
-constant-is s (read.number n) k e = e
-constant-is s (read.text quote) k (t, e, w) = e ∙ ap text (sym (shown s quote t (whole-string-exactly s quote t .0 w)))
-
-constant-permitted : (s : List ℕ) (c : read.Value) → constantPermitted s c ≡ true ↔ ((k : Compared) × ConstantIs s c k × Permitted k)
-constant-permitted s (read.number n) = (λ h. (number n, refl, number-permitted n .0 h), back)
-  where
-    back : (k : Compared) × ConstantIs s (read.number n) k × Permitted k → constantPermitted s (read.number n) ≡ true
-    back (k, e, p) = number-permitted n .1 (rw e at p)
-constant-permitted s (read.text quote) = (there, back)
-  where
-    there : isTextAt s quote ≡ true → (k : Compared) × ConstantIs s (read.text quote) k × Permitted k
-    there h =
-        let c = contentAt s quote in
-        let w : WholeString s quote c = whole-string-exactly s quote c .1 (h, refl) in
-        (text c, (c, refl, w), (w .few, w .each))
-
-    back : (k : Compared) × ConstantIs s (read.text quote) k × Permitted k → isTextAt s quote ≡ true
-    back (k, (c, e, w), p) = whole-string-exactly s quote c .0 w .0
+use Rattle.start.proofs.Operands.{refuted, holds-exactly, comparable-exactly, constant-is, constant-permitted}
+use Rattle.start.proofs.Permits.{value-permitted}
 
 -- ---- the decision's tests, each against its sentence
 

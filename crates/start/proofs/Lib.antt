@@ -4,6 +4,7 @@ pub mod Levels
 pub mod Tested
 pub mod Compares
 pub mod Permits
+pub mod Operands
 pub mod Decides
 pub mod Says
 pub mod Steps

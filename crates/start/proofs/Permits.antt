@@ -1,8 +1,8 @@
 -- What 01 permits, as code tests it: numbers of at most 16 digits, strings of at most 255 bytes that may stand in one.
-use Prim.Native.Nat.{ℕ, zero, suc, _+_, _-_, _^_, _≤_, _<_}
+use Prim.Native.Nat.{ℕ, _-_, _^_}
 use mathlib.Core.Path.{_≡_, refl, sym, ap, _∙_}
-use mathlib.Core.Bool.{Bool, true, false, _&&_}
-use mathlib.Core.List.{List, [], _∷_, _++_, List·Memᴰ, append-nil}
+use mathlib.Core.Bool.{true, _&&_}
+use mathlib.Core.List.{List, [], _∷_, _++_, append-nil}
 use mathlib.Core.Logic.{_↔_}
 use native.Mathlib.Omega.{arith}
 use lib.Dec.{eqb, leb, ltb}
@@ -11,17 +11,17 @@ use lib.ListN.{length, take, drop, length-append, length-take, length-drop, take
 use lib.Seq.{take-length}
 use borrow.Author.Tests.{leb-true, le-leb, eqb-true, eq-eqb, ltb-true, lt-ltb}
 use Rattle.counts.specs.Limits.{textBytes, numberDigits}
-use Rattle.laws.proofs.Choose.{and-left, and-right, and-both, halves}
-use Rattle.decimal.specs.Digits.{digits, value, isDigit, allDigits}
+use Rattle.laws.proofs.Choose.{and-both, halves}
+use Rattle.decimal.specs.Digits.{digits, isDigit, allDigits}
 use Rattle.decimal.proofs.Laws.{length-digits, value-digits}
 use Rattle.decimal.proofs.ReadLaws.{all-digits}
 use Rattle.scan.specs.Kinds.{isTextByte}
 use Rattle.scan.specs.Run.{run, runEnd}
 use Rattle.scan.proofs.Runs.{run-first, run-whole}
 use Rattle.record.specs.Record.{isText}
-use Rattle.token.specs.Token.{ContentByte, WholeString}
+use Rattle.token.specs.Token.{WholeString}
 use Rattle.token.proofs.Whole.{text-byte, byte-text}
-use Rattle.number.specs.Number.{spelled, Numeral, signedOf, numberOf}
+use Rattle.number.specs.Number.{spelled, Numeral, signedOf}
 use Rattle.number.proofs.Numerals.{numeral-reads, numeral-small}
 use Rattle.grammar.specs.Statement.{Number}
 use Rattle.item.specs.Tokens.{paperNumber}

@@ -1,7 +1,6 @@
 -- An answer's paper value loses nothing: two answers with the same value are the same answer.
-use Prim.Native.Nat.{ℕ}
 use mathlib.Core.Path.{_≡_, refl, sym, ap}
-use mathlib.Core.Bool.{true, false, false≢true}
+use mathlib.Core.Bool.{false≢true}
 use Rattle.counts.proofs.Results.{refused-not-done, done-same, same-refusal}
 use Rattle.start.specs.Decision.{paperDecision}
 use Rattle.start.specs.declared.Decision.{Decision}

@@ -1,17 +1,17 @@
 -- The laws that the functions ask for, each in its own shape: what a callee has answered is a variable.
 use Prim.Native.Nat.{ℕ, _+_, _-_, _*_, _^_, _≤_, _<_}
 use mathlib.Core.Path.{_≡_, refl, sym, ap, ap₂, _∙_}
-use mathlib.Core.Bool.{Bool, true, false, cond, _&&_}
+use mathlib.Core.Bool.{Bool, true, false, _&&_}
 use mathlib.Core.List.{List, []}
 use mathlib.Core.Logic.{_⊎_, inl, inr}
 use native.Mathlib.Omega.{arith}
 use borrow.Author.Tests.{ne-eqb}
-use lib.Dec.{eqb, ltb}
-use lib.IntN.{ℤ, pos, natAbs}
+use lib.Dec.{ltb}
+use lib.IntN.{ℤ, natAbs}
 use lib.ListN.{length}
 use Rattle.counts.specs.Limits.{numberDigits}
 use Rattle.counts.specs.Refusals.{notReal, notARecord, notComparable}
-use Rattle.counts.specs.Result.{Result, refused, done}
+use Rattle.counts.specs.Result.{refused, done}
 use Rattle.counts.proofs.Results.{first-way}
 use Rattle.laws.proofs.Choose.{halves}
 use Rattle.field.specs.Bytes.{same, hasAt}
@@ -26,7 +26,7 @@ use Rattle.statement.specs.declared.Start.{Start as Clause}
 use Rattle.statement.specs.declared.Start.the-variants.{At}
 use Rattle.statement.specs.declared.Operand.{Operand}
 use Rattle.statement.specs.declared.Operand.the-variants as operand
-use Rattle.start.specs.Due.{Compared, number, text, Given, scaled}
+use Rattle.start.specs.Due.{Compared, number, Given}
 use Rattle.start.specs.Decision.{presentValue, byOrder, numberHolds, comparable, isPermitted, valuePermitted, constantPermitted, constantOf, conditionRefusal, allReal, clauseRefusal, dueRefusal, isDue, decision, negative, mantissaLimit, Levelled}
 use Rattle.start.specs.declared.Present.{Present}
 use Rattle.start.specs.declared.Present.the-variants as present

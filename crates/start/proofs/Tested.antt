@@ -1,6 +1,5 @@
 -- What an operator says of two numbers, as a test: by whether the first is less, and whether the second is.
-use Prim.Native.Nat.{ℕ, _≤_, _<_}
-use mathlib.Core.Path.{_≡_, refl, sym, ap, _∙_, subst}
+use mathlib.Core.Path.{_≡_, refl, sym, ap, subst}
 use mathlib.Core.Bool.{Bool, true, false, not, _&&_, _||_, false≢true}
 use mathlib.Core.Logic.{_↔_}
 use native.Mathlib.Omega.{arith}
@@ -8,12 +7,12 @@ use native.Mathlib.Nat.{le-antisymm}
 use lib.Dec.{T, leb→le}
 use lib.IntN.{ℤ, pos, negsuc}
 use lib.Signed.{ltZ, leZ, _≤ℤ_, _<ℤ_, ltZ-yes, ltZ-no, <ℤ-≤ℤ-trans, clashℤ}
-use borrow.Author.Tests.{ltb-true, le-ltb, not-true}
-use Rattle.laws.proofs.Choose.{and-left, and-right, and-both}
+use borrow.Author.Tests.{ltb-true, le-ltb}
+use Rattle.laws.proofs.Choose.{and-left, and-right}
 use Rattle.grammar.specs.Statement.{Operator, Number}
 use Rattle.grammar.specs.Statement.Operator.{equal, notEqual, above, below, atLeast, atMost}
 use Rattle.start.specs.Due.{scaled, NumberHolds}
-use Rattle.start.specs.Decision.{byOrder, numberHolds}
+use Rattle.start.specs.Decision.{numberHolds}
 
 -- ---- whole numbers
 

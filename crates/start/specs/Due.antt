@@ -14,7 +14,7 @@ use Rattle.moment.specs.Moment.{AtOrAfter}
 use Rattle.token.specs.Token.{ContentByte, WholeString}
 use Rattle.number.specs.Number.{Numeral, numberOf}
 use Rattle.grammar.specs.Statement as read
-use Rattle.grammar.specs.Statement.{Operator, Number, Start}
+use Rattle.grammar.specs.Statement.{Operator, Number, Start, Statement}
 use Rattle.grammar.specs.Statement.Operator.{equal, notEqual, above, below, atLeast, atMost}
 use Rattle.grammar.specs.Statement.Start.{immediate, atTime, atTimeOn, when}
 use Rattle.item.specs.Tokens.{paperNumber}
@@ -44,6 +44,7 @@ at date time g = record { bytes = g .bytes; date = date; time = time; takenUp = 
 abbrev pub scaled : Number → Number → ℤ
 scaled a b = a .mantissa *ℤ pos (10 ^ b .scale)
 
+-- the operators, of the value v and the constant k
 abbrev pub NumberHolds : Operator → Number → Number → Type 0
 NumberHolds equal v k = scaled v k ≡ scaled k v
 NumberHolds notEqual v k = scaled v k ≡ scaled k v → ⊥
@@ -134,3 +135,7 @@ module _ (g : Given) where
   Due (atTimeOn time date) = AtOrAfter (g .date) (g .time) date time
   -- "A condition compares the parameter's present value with the constant"
   Due (when name o c) = (k : Compared) × ConstantIs (g .bytes) c k × Holds o (g .value) k
+
+-- the start clause of an UPLOAD or DOWNLOAD
+abbrev pub HasClause : Statement → Start → Type 0
+HasClause z y = (f : ℕ) × (x : read.Source) × ((z ≡ read.upload f x y) ⊎ (z ≡ read.download f x y))

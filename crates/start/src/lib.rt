@@ -22,7 +22,7 @@ ghost use Rattle.item.specs.Tokens.{paperNumber, paperOperator};
 ghost use Rattle.job.specs.Statement.{textAt};
 ghost use Rattle.meaning.specs.Paper.{paperStart, paperValue};
 ghost use Rattle.start.specs.Due.{Compared};
-ghost use Rattle.start.specs.Decision.{presentValue, given, paperDecision, byOrder, numberHolds, bySame, noOrder, isPermitted, valuePermitted, constantPermitted, constantOf, comparable, holds, conditionRefusal, ownReal, allReal, clauseRefusal, dueRefusal, isDue, decision, negative, mantissaLimit, Grown, Levelled};
+ghost use Rattle.start.specs.Decision.{presentValue, given, paperDecision, byOrder, numberHolds, bySame, noOrder, isPermitted, valuePermitted, constantPermitted, constantOf, comparable, holds, conditionRefusal, ownReal, allReal, clauseRefusal, isDue, decision, negative, mantissaLimit, Grown, Levelled};
 
 // The parameter's present value: a number, or the bytes that are given with it.
 pub enum Present {

@@ -2,7 +2,7 @@
 use borrow.Author.Needs.{needs}
 use mathlib.Core.Path.{ap, _∙_}
 use mathlib.Core.Bool.{Bool}
-use Rattle.item.specs.Tokens.{paperNumber, paperOperator}
+use Rattle.item.specs.Tokens.{paperOperator}
 use Rattle.start.specs.Decision.{bySame}
 use Rattle.start.proofs.Steps.{numbers-permitted}
 use borrow.Author.Needs.{needs}

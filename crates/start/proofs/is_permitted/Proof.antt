@@ -1,5 +1,4 @@
 -- `start::is_permitted` meets its contract.
-use Rattle.laws.proofs.Choose.{choose}
 use mir.Syntax.{w64}
 use mir.ValLaws.{toZ-ofZ}
 use Rattle.item.specs.Tokens.{paperNumber}
