@@ -357,8 +357,8 @@ pub record Starts : Type 0 where
   pub zeros-change-nothing : (o : Operator) (z y : ℕ) (v k : Value) → NumberHolds o (withZeros z v) (withZeros y k) ↔ NumberHolds o v k
   pub ten-times-both : (o : Operator) (v k : Value) → NumberHolds o (tenTimes v) (tenTimes k) ↔ NumberHolds o v k
 
--- ---- The 29th of February (document 02, P4). "Job files, records, answers and start decisions all follow. .. Demand 2 reads with this calendar.": what is said above of a date
--- is said of `realDate`, in which February has the days that P4 gives it.
+-- ---- The 29th of February (document 02, P4). "Job files, records, answers and start decisions all follow. .. Demand 2 reads with this calendar.": what is
+-- said above of a date is said of `realDate`, in which February has the days that P4 gives it.
 
 pub record StoredDates : Type 0 where
   -- "A session table that stores a now unreal date is unsound.": with any answer of any session

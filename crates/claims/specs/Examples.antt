@@ -1,6 +1,6 @@
 -- The examples that document 01 marks with a star, with P2's numbers, both ends, sign and zero of its numbers, and, of document 02, some report files of P1,
--- faults of P2, start decisions of P3, dates of P4 and missing start clauses of P7, in one table: the words, and the test that they are, on the definitions that the contracts
--- cite. `proofs/Examples` proves that every row holds, by one computation.
+-- faults of P2, start decisions of P3, dates of P4 and missing start clauses of P7, in one table: the words, and the test that they are, on the definitions
+-- that the contracts cite. `proofs/Examples` proves that every row holds, by one computation.
 use Prim.Native.Nat.{ℕ}
 use Prim.Native.String.{String}
 use mathlib.Core.Bool.{Bool, true, false, cond, not, _&&_}

@@ -1,5 +1,5 @@
--- Every refusal of every call fits the one number that C gets: its number is from 1 to 18, or to 19 for a start decision, and its place is at most a file's length, which for a job
--- file is 65,535.
+-- Every refusal of every call fits the one number that C gets: its number is from 1 to 18, or to 19 for a start decision, and its place is at most a file's
+-- length, which for a job file is 65,535.
 use Prim.Native.Nat.{ℕ, _≤_}
 use Rattle.counts.specs.Limits.{fileBytes}
 use Rattle.counts.specs.Result.{Result, refused}

@@ -11,12 +11,13 @@ use Rattle.laws.proofs.Choose.{and-left, and-right, and-both, halves}
 use Rattle.calendar.specs.Calendar.{realDate, realTime}
 use Rattle.moment.specs.Moment.{realMoment, AtOrAfter}
 use Rattle.moment.proofs.Later.{at-or-after, at-or-after-on}
+use Rattle.grammar.proofs.Points.{refuted}
 use Rattle.grammar.specs.Statement.{Start}
 use Rattle.grammar.specs.Statement.Start.{immediate, atTime, atTimeOn, when}
 use Rattle.start.specs.Due.{Given, OwnReal, Real, AllPermitted, AllComparable, Due, at}
 use Rattle.start.specs.Decision.{comparable, valuePermitted, constantPermitted, constantOf, conditionRefusal, ownReal, allReal, clauseRefusal, dueRefusal, isDue, decision}
 use Rattle.start.specs.Rows.{DueRow, five, seven, nineteen, due, not-due, DecidedDue}
-use Rattle.start.proofs.Operands.{refuted, holds-exactly, comparable-exactly, constant-is, constant-permitted}
+use Rattle.start.proofs.Operands.{holds-exactly, comparable-exactly, constant-is, constant-permitted}
 use Rattle.start.proofs.Permits.{value-permitted}
 
 -- ---- the decision's tests, each against its sentence

@@ -2,7 +2,7 @@
 use Prim.Native.Nat.{ℕ, zero, suc, _+_, _*_, _^_, _≤_, _<_}
 use mathlib.Core.Path.{_≡_, refl, sym, ap₂, _∙_}
 use mathlib.Core.Bool.{Bool, true, false, not, _&&_, _||_}
-use mathlib.Core.Logic.{_⊎_, inl, inr}
+use mathlib.Core.Logic.{_⊎_, inl, inr, ⊎-swap}
 use native.Mathlib.Omega.{arith}
 use native.Mathlib.Nat.{mul-assoc, mul-one, suc-mul, mul-lt-mul-of-pos-right, lt-of-mul-lt-mul-right}
 use lib.Dec.{eqb, leb, ltb}
@@ -14,7 +14,7 @@ use Rattle.decimal.proofs.Laws.{ten-pos}
 use Rattle.start.specs.Decision.{negative, mantissaLimit, Grown, Levelled}
 
 -- two tests that hold together
-pub ltb-same : (a b c d : ℕ) → (a < b → c < d) → (c < d → a < b) → ltb a b ≡ ltb c d
+ltb-same : (a b c d : ℕ) → (a < b → c < d) → (c < d → a < b) → ltb a b ≡ ltb c d
 ltb-same a b c d f g = go (ltb a b) (ltb c d) refl refl
   where
     go : (t u : Bool) → ltb a b ≡ t → ltb c d ≡ u → t ≡ u
@@ -92,11 +92,7 @@ level-order true false x y r q l k s f g =
     lt-ltb r q (omega (arith, l .level, k .level, l .grown .most, grown-some x (l .size) (l .grown) (f refl)))
 level-order true true x y r q l k s f g =
     ltb-same r q (k .size) (l .size) (λ h. omega (arith, l .level, k .level)) (λ h. omega (arith, l .level, k .level))
-    ∙ grown-order y x (k .size) (l .size) (k .grown) (l .grown) (turned s)
-  where
-    turned : (x < mantissaLimit) ⊎ (y < mantissaLimit) → (y < mantissaLimit) ⊎ (x < mantissaLimit)
-    turned (inl h) = inr h
-    turned (inr h) = inl h
+    ∙ grown-order y x (k .size) (l .size) (k .grown) (l .grown) (⊎-swap s)
 
 -- ---- the numbers that they stand for
 

@@ -1,7 +1,7 @@
 -- What is compared, as code tests it, is what P3 says: strings and numbers by each operator, what can be compared, and the constant that stands in the bytes.
 use Prim.Native.Nat.{ℕ}
 use mathlib.Core.Path.{_≡_, refl, sym, ap, _∙_}
-use mathlib.Core.Bool.{Bool, true, false, false≢true}
+use mathlib.Core.Bool.{true, false≢true}
 use mathlib.Core.List.{List}
 use mathlib.Core.Logic.{_⊎_, _↔_, inl, inr}
 use borrow.Author.Tests.{not-true}
@@ -9,6 +9,7 @@ use Rattle.field.specs.Bytes.{same}
 use Rattle.field.proofs.Same.{same-refl, same-true}
 use Rattle.token.specs.Token.{WholeString, isTextAt, contentAt}
 use Rattle.token.proofs.Whole.{whole-string-exactly}
+use Rattle.grammar.proofs.Points.{refuted}
 use Rattle.grammar.specs.Statement as read
 use Rattle.grammar.specs.Statement.{Operator}
 use Rattle.grammar.specs.Statement.Operator.{equal, notEqual, above, below, atLeast, atMost}
@@ -17,10 +18,6 @@ use Rattle.start.specs.Due.{Compared, number, text, TextHolds, Holds, Co
 use Rattle.start.specs.Decision.{bySame, noOrder, holds, comparable, constantPermitted, constantOf}
 use Rattle.start.proofs.Tested.{number-exactly}
 use Rattle.start.proofs.Permits.{number-permitted}
-
-pub refuted : (b : Bool) → (b ≡ true → ⊥) → b ≡ false
-refuted true f = absurd (f refl)
-refuted false f = refl
 
 -- ---- what is compared
 

@@ -27,12 +27,16 @@ module _ (n : ℕ) (h : n < 2 ^ 63) where
   turned : pos 0 -ℤ (negsuc n +ℤ pos 1) ≡ pos n
   turned = rw (+ℤ-one (negsuc n)) (+ℤ-idl (negℤ (sucℤ (negsuc n))) ∙ negℤ-sucℤ (negsuc n))
 
+below : (m : ℤ) → SFits w64 m → ltZ m (pos 0) ≡ true → (n : ℕ) × (n < 2 ^ 63) × (m ≡ negsuc n)
+below (pos k) g e = absurd (omega (arith, ltb-true k 0 e))
+below (negsuc k) g e = (k, g .sfits, refl)
+
+above : (m : ℤ) → SFits w64 m → ltZ m (pos 0) ≡ false → (n : ℕ) × (n < 2 ^ 63) × (m ≡ pos n)
+above (pos k) g e = (k, g .sfits, refl)
+above (negsuc k) g e = absurd (let z : _≡_ {A = ℕ} 0 1 = cc in omega arith)
+
 -- m is below 0
 module _ (m : ℤ) (f : SFits w64 m) (t : ltZ (back m) (pos 0) ≡ true) where
-  below : (m : ℤ) → SFits w64 m → ltZ m (pos 0) ≡ true → (n : ℕ) × (n < 2 ^ 63) × (m ≡ negsuc n)
-  below (pos k) g e = absurd (omega (arith, ltb-true k 0 e))
-  below (negsuc k) g e = (k, g .sfits, refl)
-
   is-below : (n : ℕ) × (n < 2 ^ 63) × (m ≡ negsuc n)
   is-below = below m f (rw (toZ-ofZ w64 m f) at t)
 
@@ -67,10 +71,6 @@ module _ (m : ℤ) (f : SFits w64 m) (t : ltZ (back m) (pos 0) ≡ true) where
 
 -- m is not below 0
 module _ (m : ℤ) (f : SFits w64 m) (t : ltZ (back m) (pos 0) ≡ false) where
-  above : (m : ℤ) → SFits w64 m → ltZ m (pos 0) ≡ false → (n : ℕ) × (n < 2 ^ 63) × (m ≡ pos n)
-  above (pos k) g e = (k, g .sfits, refl)
-  above (negsuc k) g e = absurd (let z : _≡_ {A = ℕ} 0 1 = cc in omega arith)
-
   is-above : (n : ℕ) × (n < 2 ^ 63) × (m ≡ pos n)
   is-above = above m f (rw (toZ-ofZ w64 m f) at t)
 

@@ -3,7 +3,7 @@ use Prim.Native.Nat.{ℕ, _+_, _-_, _*_, _^_, _≤_, _<_}
 use mathlib.Core.Path.{_≡_, refl, sym, ap, ap₂, _∙_}
 use mathlib.Core.Bool.{Bool, true, false, _&&_}
 use mathlib.Core.List.{List, []}
-use mathlib.Core.Logic.{_⊎_, inl, inr}
+use mathlib.Core.Logic.{_⊎_, inl, inr, ⊎-swap}
 use native.Mathlib.Omega.{arith}
 use borrow.Author.Tests.{ne-eqb}
 use lib.Dec.{ltb}
@@ -58,11 +58,7 @@ module _ (o : Operator) (v k : Number) (a b : ℤ) (a-is : a ≡ v .mantissa) (b
       made
       ∙ ap₂ (byOrder o)
       (levels-order (v .mantissa) (k .mantissa) (v .scale) (k .scale) c d e more more′ small small′ r q z l′ m′)
-      (levels-order (k .mantissa) (v .mantissa) (k .scale) (v .scale) c e d more′ more small′ small q r (turned z) m′ l′)
-    where
-      turned : (d ≡ 0) ⊎ (e ≡ 0) → (e ≡ 0) ⊎ (d ≡ 0)
-      turned (inl h) = inr h
-      turned (inr h) = inl h
+      (levels-order (k .mantissa) (v .mantissa) (k .scale) (v .scale) c e d more′ more small′ small q r (⊎-swap z) m′ l′)
 
   pub fewer-left : v .scale ≤ k .scale → Levelled (negative a) (natAbs a * 10 ^ (k .scale - v .scale)) r
       → Levelled (negative b) (natAbs b * 10 ^ 0) q → x ≡ numberHolds o v k

@@ -1,7 +1,6 @@
 -- `start::by_level` meets its contract.
 use borrow.Author.Needs.{needs}
 use Rattle.start.proofs.Levels.{equal-by-order, not-equal-by-order, at-most-by-order}
-use borrow.Author.Needs.{needs}
 use Rattle.start.proofs.by_level.Statement.{statement}
 use Rattle.start.proofs.by_level.Tie as tie
 

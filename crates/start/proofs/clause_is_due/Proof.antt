@@ -2,9 +2,6 @@
 use borrow.Author.Needs.{needs}
 use denote.Ref.{now}
 use Rattle.start.specs.Decision.{presentValue}
-use borrow.Author.Needs.{needs}
-use denote.Ref.{now}
-use Rattle.start.specs.Decision.{presentValue}
 use Rattle.start.proofs.clause_is_due.Statement.{statement}
 use Rattle.start.proofs.clause_is_due.Tie as tie
 

@@ -3,10 +3,6 @@ use borrow.Author.Needs.{needs}
 use denote.Ref.{now}
 use Rattle.start.specs.Decision.{presentValue}
 use Rattle.start.proofs.Steps.{time-not-refused}
-use borrow.Author.Needs.{needs}
-use denote.Ref.{now}
-use Rattle.start.specs.Decision.{presentValue}
-use Rattle.start.proofs.Steps.{time-not-refused}
 use Rattle.start.proofs.clause_refusal.Statement.{statement}
 use Rattle.start.proofs.clause_refusal.Tie as tie
 

@@ -5,7 +5,6 @@ use mathlib.Core.Bool.{Bool}
 use Rattle.item.specs.Tokens.{paperOperator}
 use Rattle.start.specs.Decision.{bySame}
 use Rattle.start.proofs.Steps.{numbers-permitted}
-use borrow.Author.Needs.{needs}
 use Rattle.start.proofs.condition_holds.Statement.{statement}
 use Rattle.start.proofs.condition_holds.Tie as tie
 

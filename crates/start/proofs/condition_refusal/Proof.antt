@@ -2,7 +2,6 @@
 use borrow.Author.Needs.{needs}
 use Rattle.item.specs.Tokens.{paperOperator}
 use Rattle.start.proofs.Steps.{not-permitted, not-comparable, no-refusal}
-use borrow.Author.Needs.{needs}
 use Rattle.start.proofs.condition_refusal.Statement.{statement}
 use Rattle.start.proofs.condition_refusal.Tie as tie
 

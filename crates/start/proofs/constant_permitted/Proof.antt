@@ -1,6 +1,5 @@
 -- `start::constant_permitted` meets its contract.
 use borrow.Author.Needs.{needs}
-use borrow.Author.Needs.{needs}
 use Rattle.start.proofs.constant_permitted.Statement.{statement}
 use Rattle.start.proofs.constant_permitted.Tie as tie
 

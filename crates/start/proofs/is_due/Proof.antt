@@ -2,7 +2,6 @@
 use borrow.Author.Needs.{needs}
 use mathlib.Core.Path.{sym, _∙_}
 use Rattle.start.proofs.Steps.{unreal-so, refused-so, decided-so}
-use borrow.Author.Needs.{needs}
 use Rattle.start.proofs.is_due.Statement.{statement}
 use Rattle.start.proofs.is_due.Tie as tie
 

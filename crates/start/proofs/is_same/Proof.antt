@@ -1,7 +1,6 @@
 -- `start::is_same` meets its contract.
 use borrow.Author.Needs.{needs}
 use Rattle.start.proofs.Steps.{same-so, differs-so}
-use borrow.Author.Needs.{needs}
 use Rattle.start.proofs.is_same.Statement.{statement}
 use Rattle.start.proofs.is_same.Tie as tie
 

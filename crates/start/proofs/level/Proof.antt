@@ -3,7 +3,6 @@ use borrow.Author.Needs.{needs}
 use mir.Syntax.{w64}
 use mir.ValLaws.{toZ-ofZ}
 use Rattle.start.proofs.Growing.{small-size, level-below, level-above}
-use borrow.Author.Needs.{needs}
 use Rattle.start.proofs.level.Statement.{statement}
 use Rattle.start.proofs.level.Tie as tie
 

@@ -1,6 +1,5 @@
 -- `start::own_real` meets its contract.
 use borrow.Author.Needs.{needs}
-use borrow.Author.Needs.{needs}
 use Rattle.start.proofs.own_real.Statement.{statement}
 use Rattle.start.proofs.own_real.Tie as tie
 

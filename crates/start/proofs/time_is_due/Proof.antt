@@ -1,6 +1,5 @@
 -- `start::time_is_due` meets its contract.
 use borrow.Author.Needs.{needs}
-use borrow.Author.Needs.{needs}
 use Rattle.start.proofs.time_is_due.Statement.{statement}
 use Rattle.start.proofs.time_is_due.Tie as tie
 

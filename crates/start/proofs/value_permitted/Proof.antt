@@ -2,7 +2,6 @@
 use borrow.Author.Needs.{needs}
 use Rattle.laws.proofs.Choose.{choose}
 use Rattle.record.specs.Record.{isText}
-use borrow.Author.Needs.{needs}
 use Rattle.start.proofs.value_permitted.Statement.{statement}
 use Rattle.start.proofs.value_permitted.Tie as tie
 
