@@ -2,14 +2,14 @@
 use Prim.Native.Nat.{ℕ, zero, suc, _+_, _≤_, _<_}
 use mathlib.Core.Path.{_≡_, refl, sym, _∙_, ap, ap₂}
 use mathlib.Core.Bool.{Bool, true, false, cond}
-use mathlib.Core.List.{List, [], _∷_, _++_}
+use mathlib.Core.List.{List, [], _∷_, _++_, append-nil}
 use native.Mathlib.Omega.{arith}
 use borrow.Author.Tests.{lt-ltb, le-ltb, eq-eqb, ne-eqb}
 use lib.Dec.{eqb, ltb}
 use lib.ListN.{length, length-append}
 use Rattle.counts.specs.Limits.{statements}
 use Rattle.counts.specs.Refusals.{unexpected, tooManyStatements, refusal}
-use Rattle.counts.specs.Result.Result.{refused}
+use Rattle.counts.specs.Result.Result.{refused, done as taken}
 use Rattle.grammar.specs.declared.StartClause.{StartClause}
 use Rattle.grammar.specs.Grammar.{Class, classNo, isClass, shape}
 use Rattle.grammar.specs.Grammar.Class.{JOB, date, unrealDate, time, unrealTime}
@@ -32,9 +32,10 @@ use Rattle.statement.specs.declared.StatementRead.{StatementRead}
 use Rattle.statement.specs.declared.StatementRead.the-variants.{Is, Refused}
 use Rattle.statement.proofs.Along.{any-kind}
 use Rattle.statement.proofs.Bridge.{Reads, rest-reads}
-use Rattle.job.specs.Loop.{refuse, stepRead, stepInto, stepOf, onStep, jobLoop}
+use Rattle.job.specs.Loop.{refuse, stepRead, stepInto, stepOf, after, onStep, jobLoop, restOf}
 use Rattle.job.specs.declared.Step.{Step}
 use Rattle.job.specs.declared.Step.the-variants.{Over, RefusedAt}
+use Rattle.job.proofs.Offsets.{after-none, after-after}
 
 -- at the start only JOB may stand, and later any statement but JOB: the first where it is so, else the second
 abbrev byJob : {A : Type 0} → List ℕ → Bool → A → A → A
@@ -71,19 +72,20 @@ unfolding stepOf
 tested clause s k t a b f z p q r o = rw (p, q, r, o)
 
 module _ (clause : StartClause) (s : List ℕ) where
-  at-the-end : (t : Item) (p : ℕ) (os : List ℕ) (k : List ℕ → ℕ → OffsetsRead) → Shows t (ended p)
-      → onStep (stepOf clause s (length os) t) os (t .place) k ≡ atEnd done os p
+  at-the-end : (t : Item) (p : ℕ) (os : List ℕ) (k : ℕ → OffsetsRead) → Shows t (ended p)
+      → after os (onStep (stepOf clause s (length os) t) k) ≡ atEnd done os p
   at-the-end t p [] k (the-end c q) =
-      ap (λ (x : Step). onStep x [] (t .place) k) (tested clause s 0 t true _ _ true (ap (λ (n : ℕ). eqb n endNo) c) refl refl refl) ∙ rw (c, q)
+      ap (λ (x : Step). after [] (onStep x k)) (tested clause s 0 t true _ _ true (ap (λ (n : ℕ). eqb n endNo) c) refl refl refl) ∙ rw (c, q)
   at-the-end t p (o ∷ os) k (the-end c q) =
-      ap (λ (x : Step). onStep x (o ∷ os) (t .place) k)
+      ap (λ (x : Step). after (o ∷ os) (onStep x k))
       (tested clause s (length (o ∷ os)) t true _ _ false (ap (λ (n : ℕ). eqb n endNo) c) refl refl (ne-eqb (length (o ∷ os)) 0 (λ e. omega arith)))
+      ∙ ap (λ (l : List ℕ). taken l) (append-nil (o ∷ os))
 
-  at-no-token : (t : Item) (why : Why) (p : ℕ) (os : List ℕ) (k : List ℕ → ℕ → OffsetsRead) → Shows t (noTokenNext why p)
-      → onStep (stepOf clause s (length os) t) os (t .place) k ≡ refused (noTokenNumber why) p
+  at-no-token : (t : Item) (why : Why) (p : ℕ) (os : List ℕ) (k : ℕ → OffsetsRead) → Shows t (noTokenNext why p)
+      → after os (onStep (stepOf clause s (length os) t) k) ≡ refused (noTokenNumber why) p
   at-no-token t why p os k (none-there c q) =
       let above = no-token-numbers why .0 in
-      ap (λ (x : Step). onStep x os (t .place) k)
+      ap (λ (x : Step). after os (onStep x k))
       (tested clause s (length os) t false true _ _ (ne-eqb (t .class) endNo (λ e. omega arith)) (lt-ltb endNo (t .class) (omega arith)) refl refl)
       ∙ rw (c, q, no-token-numbers why .1)
 
@@ -93,10 +95,10 @@ module _ (clause : StartClause) (s : List ℕ) where
   not-above : (t : Item) (c : Class) → t .class ≡ classNo c → ltb endNo (t .class) ≡ false
   not-above t c e = le-ltb endNo (t .class) (omega (arith, class-below c))
 
-  full : (t : Item) (u : Placed) (os : List ℕ) (k : List ℕ → ℕ → OffsetsRead) → length os ≡ statements → Shows t (item u)
-      → onStep (stepOf clause s (length os) t) os (t .place) k ≡ refused tooManyStatements (u .place)
+  full : (t : Item) (u : Placed) (os : List ℕ) (k : ℕ → OffsetsRead) → length os ≡ statements → Shows t (item u)
+      → after os (onStep (stepOf clause s (length os) t) k) ≡ refused tooManyStatements (u .place)
   full t u os k l (a-token c p n) =
-      ap (λ (x : Step). onStep x os (t .place) k)
+      ap (λ (x : Step). after os (onStep x k))
       (tested clause s (length os) t false false true _ (not-end t (u .class) c) (not-above t (u .class) c) (eq-eqb _ _ l) refl)
       ∙ ap (refused tooManyStatements) p
 
@@ -123,17 +125,18 @@ module _ (clause : StartClause) (s : List ℕ) where
 
   -- after a statement that begins with t
   module _ (left : ℕ) (os : List ℕ) (t : Placed) (ts : List Placed) (z : Last) (n : length os + suc left ≡ statements)
-      (later : (b : ℕ) (rest : List Placed) → Tokens s b rest z → jobLoop clause s (suc left) (os ++ (t .place ∷ [])) b
+      (later : (b : ℕ) (rest : List Placed) → Tokens s b rest z
+      → after (os ++ (t .place ∷ [])) (jobLoop clause s (suc left) (length os + 1) b)
       ≡ close (moves clause (on done (os ++ (t .place ∷ []))) rest) z) where
     abbrev goes : Step → OffsetsRead
-    goes x = onStep x os (t .place) (jobLoop clause s (suc left))
+    goes x = after os (onStep x λ next. after (t .place ∷ []) (jobLoop clause s (suc left) (length os + 1) next))
 
     abbrev so : State → OffsetsRead
     so x = close (moves clause x ts) z
 
     any-goes : (x : StatementRead) → Reads clause s (statement clause) (os ++ (t .place ∷ [])) (t ∷ ts) z x
         → goes (stepRead x) ≡ so (stepWith (statement clause) (os ++ (t .place ∷ [])) t)
-    any-goes (Is x b) y = later b (y .0) (y .1) ∙ sym (y .2)
+    any-goes (Is x b) y = after-after os (t .place ∷ []) (jobLoop clause s (suc left) (length os + 1) b) ∙ later b (y .0) (y .1) ∙ sym (y .2)
     any-goes (Refused r) y = sym y
 
     stops : goes (RefusedAt (refusal unexpected (t .place))) ≡ so (refusedAt unexpected (t .place))
@@ -158,24 +161,31 @@ module _ (clause : StartClause) (s : List ℕ) where
   count : (os : List ℕ) (p left : ℕ) → length os + suc left ≡ statements → length (os ++ (p ∷ [])) + left ≡ statements
   count os p left n = simp length-append (omega arith)
 
+  one-longer : (left : ℕ) (os : List ℕ) (p i : ℕ)
+      → after (os ++ (p ∷ [])) (jobLoop clause s (suc left) (length os + 1) i)
+      ≡ after (os ++ (p ∷ [])) (jobLoop clause s (suc left) (length (os ++ (p ∷ []))) i)
+  one-longer left os p i = ap (λ (k : ℕ). after (os ++ (p ∷ [])) (jobLoop clause s (suc left) k i)) (sym (length-append os (p ∷ [])))
+
   -- the loop over statements
   loop : (left : ℕ) {i : ℕ} {ts : List Placed} {z : Last} → Tokens s i ts z → (os : List ℕ) → length os + left ≡ statements
-      → jobLoop clause s (suc left) os i ≡ close (moves clause (on done os) ts) z
+      → after os (jobLoop clause s (suc left) (length os) i) ≡ close (moves clause (on done os) ts) z
   unfolding jobLoop
-  loop zero {i = i} (at-end {p = p} e) os n = at-the-end (itemAt 0 s i) p os (jobLoop clause s zero) (rw e at (shows s i))
-  loop zero {i = i} (no-token {p = p} {why = why} e) os n = at-no-token (itemAt 0 s i) why p os (jobLoop clause s zero) (rw e at (shows s i))
+  loop zero {i = i} (at-end {p = p} e) os n = at-the-end (itemAt 0 s i) p os _ (rw e at (shows s i))
+  loop zero {i = i} (no-token {p = p} {why = why} e) os n = at-no-token (itemAt 0 s i) why p os _ (rw e at (shows s i))
   loop zero {i = i} {z = z} (then {t = t} {ts = ts} e r) os n =
-      full (itemAt 0 s i) t os (jobLoop clause s zero) (omega arith) (rw e at (shows s i))
+      full (itemAt 0 s i) t os _ (omega arith) (rw e at (shows s i))
       ∙ sym (ap (λ (x : State). close x z)
       (ap (λ (x : State). moves clause x ts) (too-many os t (omega arith)) ∙ moves-refused clause tooManyStatements (t .place) ts))
-  loop (suc left) {i = i} (at-end {p = p} e) os n = at-the-end (itemAt 0 s i) p os (jobLoop clause s (suc left)) (rw e at (shows s i))
-  loop (suc left) {i = i} (no-token {p = p} {why = why} e) os n = at-no-token (itemAt 0 s i) why p os (jobLoop clause s (suc left)) (rw e at (shows s i))
+  loop (suc left) {i = i} (at-end {p = p} e) os n = at-the-end (itemAt 0 s i) p os _ (rw e at (shows s i))
+  loop (suc left) {i = i} (no-token {p = p} {why = why} e) os n = at-no-token (itemAt 0 s i) why p os _ (rw e at (shows s i))
   loop (suc left) {i = i} {z = z} (then {t = t} {ts = ts} e r) os n =
       let h : Shows (itemAt 0 s i) (item t) = rw e at (shows s i) in
-      ap₂ (λ (x : Step) (p : ℕ). onStep x os p (jobLoop clause s (suc left))) (one-step os i t (omega arith) h) (place-is h)
-      ∙ goes-on left os t ts z n (λ c rest d. loop left d (os ++ (t .place ∷ [])) (count os (t .place) left n)) i (then e r)
+      ap₂ (λ (x : Step) (p : ℕ). after os (onStep x λ next. after (p ∷ []) (jobLoop clause s (suc left) (length os + 1) next)))
+      (one-step os i t (omega arith) h) (place-is h)
+      ∙ goes-on left os t ts z n (λ c rest d. one-longer left os (t .place) c ∙ loop left d (os ++ (t .place ∷ [])) (count os (t .place) left n))
+      i (then e r)
 
   -- reading statement by statement gives the answer of the whole list
-  pub by-statements : {ts : List Placed} {z : Last} → Tokens s 0 ts z → jobLoop clause s (statements + 1) [] 0 ≡ read clause ts z
+  pub by-statements : {ts : List Placed} {z : Last} → Tokens s 0 ts z → restOf clause s 0 0 ≡ read clause ts z
   unfolding read
-  by-statements d = loop statements d [] refl
+  by-statements d = sym (after-none _) ∙ loop statements d [] refl

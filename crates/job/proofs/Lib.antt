@@ -1,4 +1,6 @@
+pub mod Offsets
+pub mod Steps
 pub mod Loops
-pub mod Fills
+pub mod Rest
 pub mod Bridge
 pub mod Answers

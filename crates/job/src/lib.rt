@@ -20,16 +20,16 @@ use statement::StatementRead;
 use statement::statement_of;
 use token::is_text;
 ghost use mathlib.Core.Path.{_≡_};
-ghost use mathlib.Core.List.{[], _++_};
 ghost use Prim.Native.Nat.{_+_, _≤_};
-ghost use lib.ListN.{length, take, drop};
+ghost use lib.ListN.{length};
+ghost use lib.Seq.{paste};
 ghost use Rattle.counts.specs.Limits.{fileBytes, statements};
 ghost use Rattle.counts.specs.Refusals.{refusal};
 ghost use Rattle.counts.specs.Result.{counted};
 ghost use Rattle.token.specs.Token.{isTextAt};
 ghost use Rattle.job.specs.Job.{readJob, filled, paperJob};
 ghost use Rattle.job.specs.Statement.{onRead, statementIn, readStatement, paperStatementAt, textAt};
-ghost use Rattle.job.specs.Loop.{refuse, stepRead, stepInto, stepOf, jobLoop, foundOf};
+ghost use Rattle.job.specs.Loop.{refuse, stepRead, stepOf, restOf, Block, answered, entered};
 
 // A statement, its own offset and the place after its ;
 pub struct StatementAt {
@@ -56,13 +56,15 @@ pub enum Step {
     On(usize),
 }
 
-// The offsets of a file's statements, or the refusal. They are kept here until the whole file is judged, so that the file is read once and a
-// refusal changes no entry of the caller's table.
+// Offsets are kept until the whole file is judged, so that the file is read once and a refusal changes no entry of the caller's table. They are
+// kept by so many: a file of few statements makes room for few, and one with the most of them nests few calls.
+pub const BLOCK: usize = 16;
+
+// The next statements of a file, a block at most: their offsets, and what stands after them. On says that the block is full.
 pub struct StatementsFound {
-    pub places: [u32; 64],
+    pub places: [u32; BLOCK],
     pub count: usize,
-    pub whole: bool,
-    pub refusal: Refusal,
+    pub then: Step,
 }
 
 fn refuse(number: u32, t: Item) -> Step
@@ -83,32 +85,26 @@ fn step_read(r: StatementRead) -> Step
     }
 }
 
-// A statement that begins with t, after k statements: the first is JOB and no other.
-fn step_into(file: &[u8], clause: StartClause, k: usize, t: Item) -> Step
+// The first statement of a file, which begins with t: it is JOB.
+fn first_read(file: &[u8], clause: StartClause, t: Item) -> StatementRead
     requires { ⌜ length (now file) ≤ fileBytes ⌝ }
-    ensures { λ r. ⌜ r ≡ stepInto clause (now (file .entry)) k t ⌝ }
+    ensures { λ r. ⌜ stepRead r ≡ stepOf clause (now (file .entry)) 0 t ⌝ }
 {
-    if k == 0 {
-        if t.class == JOB {
-            return step_read(statement_of(file, 0, clause, t));
-        }
-        return refuse(UNEXPECTED, t);
-    }
     if t.class == JOB {
-        return refuse(UNEXPECTED, t);
+        return statement_of(file, 0, clause, t);
     }
-    step_read(statement_of(file, 0, clause, t))
+    StatementRead::Refused(Refusal {
+        number: refusal_number(t.class),
+        place: t.place,
+    })
 }
 
-// What stands after k statements.
+// What stands after k statements. The first was JOB, and no other is.
 fn step_of(file: &[u8], clause: StartClause, k: usize, t: Item) -> Step
-    requires { ⌜ length (now file) ≤ fileBytes ⌝ }
+    requires { ⌜ (length (now file) ≤ fileBytes) × (1 ≤ k) ⌝ }
     ensures { λ r. ⌜ r ≡ stepOf clause (now (file .entry)) k t ⌝ }
 {
     if t.class == END {
-        if k == 0 {
-            return refuse(refusal_number(t.class), t);
-        }
         return Step::Over;
     }
     if END < t.class {
@@ -117,57 +113,89 @@ fn step_of(file: &[u8], clause: StartClause, k: usize, t: Item) -> Step
     if k == STATEMENTS as usize {
         return refuse(TOO_MANY_STATEMENTS, t);
     }
-    step_into(file, clause, k, t)
+    if t.class == JOB {
+        return refuse(UNEXPECTED, t);
+    }
+    step_read(statement_of(file, 0, clause, t))
 }
 
-// The statements of a file, from the left.
-fn statements_of(file: &[u8], clause: StartClause) -> StatementsFound
-    requires { ⌜ length (now file) ≤ fileBytes ⌝ }
-    ensures { λ r. ⌜ (foundOf r ≡ jobLoop clause (now (file .entry)) (statements + 1) [] 0) × (r .count ≤ length (r .places)) ⌝ }
+// The statements from the place at on, after k statements, until the file ends, is refused, or the block is full.
+fn block_of(file: &[u8], clause: StartClause, k: usize, at: usize) -> StatementsFound
+    requires { ⌜ (length (now file) ≤ fileBytes) × (1 ≤ k) × (k ≤ statements) ⌝ }
+    ensures { λ r. ⌜ Block clause (now (file .entry)) k at r ⌝ }
 {
-    let mut places = [0u32; 64];
-    let mut k: usize = 0;
-    let mut at: usize = 0;
-    loop {
-        let t = next_item(file, 0, at);
-        match step_of(file, clause, k, t) {
+    let mut places = [0u32; BLOCK];
+    let mut count: usize = 0;
+    let mut next = at;
+    while count < BLOCK {
+        let t = next_item(file, 0, next);
+        match step_of(file, clause, k + count, t) {
             Step::Over => {
                 return StatementsFound {
                     places,
-                    count: k,
-                    whole: true,
-                    refusal: Refusal {
-                        number: 0,
-                        place: 0,
-                    },
+                    count,
+                    then: Step::Over,
                 };
             }
             Step::RefusedAt(refusal) => {
                 return StatementsFound {
                     places,
-                    count: k,
-                    whole: false,
-                    refusal,
+                    count,
+                    then: Step::RefusedAt(refusal),
                 };
             }
-            Step::On(next) => {
-                places[k] = t.place as u32;
-                k += 1;
-                at = next;
+            Step::On(after) => {
+                places[count] = t.place as u32;
+                count += 1;
+                next = after;
             }
         }
     }
+    StatementsFound {
+        places,
+        count,
+        then: Step::On(next),
+    }
 }
 
-// Writes the first n places to the front of the table.
-fn fill(table: &mut [u32], places: &[u32], n: usize)
-    requires { ⌜ (n ≤ length (now table)) × (n ≤ length (now places)) ⌝ }
-    ensures { λ _. ⌜ now (table .exit) ≡ take n (now (places .entry)) ++ drop n (now (table .entry)) ⌝ }
+// Writes the first n places to the table, from its place at on.
+fn fill(table: &mut [u32], at: usize, places: &[u32], n: usize)
+    requires { ⌜ (at + n ≤ length (now table)) × (n ≤ length (now places)) ⌝ }
+    ensures { λ _. ⌜ now (table .exit) ≡ paste (now (table .entry)) at (now (places .entry)) n ⌝ }
 {
     let mut k = 0;
     while k < n {
-        table[k] = places[k];
+        table[at + k] = places[k];
         k += 1;
+    }
+}
+
+// The statements from the place at on, after k statements. The offsets of each block are written on the way back, once the whole file is taken.
+fn rest_of(file: &[u8], clause: StartClause, k: usize, at: usize, offsets: &mut [u32]) -> JobAnswer
+    requires { ⌜ (length (now file) ≤ fileBytes) × (1 ≤ k) × (k ≤ statements) ⌝ }
+    ensures { λ r. ⌜ (paperJob r ≡ answered k (length (now (offsets .entry))) (restOf clause (now (file .entry)) k at)) × (now (offsets .exit) ≡ entered k (restOf clause (now (file .entry)) k at) (now (offsets .entry))) ⌝ }
+{
+    let found = block_of(file, clause, k, at);
+    let count = found.count;
+    let places = found.places;
+    let all = k + count;
+    let then = found.then;
+    match then {
+        Step::Over => {
+            if all <= offsets.len() {
+                fill(offsets, k, &places, count);
+                return JobAnswer::Taken(all);
+            }
+            JobAnswer::Refused(Refusal::plain(TOO_FEW_PLACES))
+        }
+        Step::RefusedAt(refusal) => JobAnswer::Refused(refusal),
+        Step::On(next) => {
+            let answer = rest_of(file, clause, all, next, offsets);
+            if let JobAnswer::Taken(_) = answer {
+                fill(offsets, k, &places, count);
+            }
+            answer
+        }
     }
 }
 
@@ -178,18 +206,17 @@ pub fn read_job(file: &[u8], clause: StartClause, offsets: &mut [u32]) -> JobAns
     if FILE_BYTES < file.len() {
         return JobAnswer::Refused(Refusal::plain(FILE_TOO_LONG));
     }
-    let found = statements_of(file, clause);
-    if found.whole {
-        let count = found.count;
-        if count <= offsets.len() {
-            let places = found.places;
-            fill(offsets, &places, count);
-            return JobAnswer::Taken(count);
+    let t = next_item(file, 0, 0);
+    match first_read(file, clause, t) {
+        StatementRead::Is(_, next) => {
+            let answer = rest_of(file, clause, 1, next, offsets);
+            if let JobAnswer::Taken(_) = answer {
+                offsets[0] = t.place as u32;
+            }
+            answer
         }
-        return JobAnswer::Refused(Refusal::plain(TOO_FEW_PLACES));
+        StatementRead::Refused(refusal) => JobAnswer::Refused(refusal),
     }
-    let refusal = found.refusal;
-    JobAnswer::Refused(refusal)
 }
 
 // The statement that begins at the place p, as it was read.

@@ -1,28 +1,32 @@
 -- `job::fill` meets its contract.
-use Prim.Native.Nat.{_-_, _≤_}
+use Prim.Native.Nat.{ℕ, _+_, _-_, _≤_}
 use mathlib.Core.Path.{_≡_, refl}
-use mathlib.Core.List.{_++_}
 use native.Mathlib.Omega.{arith}
-use lib.ListN.{length, take, drop, length-set}
+use native.Mathlib.Numerals.{add-one}
+use lib.ListN.{length, length-set}
+use lib.Seq.{paste, paste-zero, paste-suc}
+use denote.Ref.{now}
 use borrow.Author.Needs.{needs}
-use Rattle.job.proofs.Fills.{one-more}
 use Rattle.job.proofs.fill.Statement.{statement}
 use Rattle.job.proofs.fill.Tie as tie
 
 abbrev Inv-loop : tie.InvT-loop
-Inv-loop table₀ places n k₀ table k = (table ≡ take k places ++ drop k table₀) × (k ≤ n) × (length table ≡ length table₀)
+Inv-loop table₀ at places n k₀ table k = (table ≡ paste table₀ at places k) × (k ≤ n) × (length table ≡ length table₀)
 
 abbrev μ-loop : tie.MeasureT-loop
-μ-loop table₀ places n k₀ table k = n - k
+μ-loop table₀ at places n k₀ table k = n - k
 
 loop-holds : tie.Need-loop-holds Inv-loop μ-loop
-loop-holds c = (refl, omega arith, refl)
+loop-holds c = let a = c .args in (paste-zero (now (a .table)) (a .at) (now (a .places)), omega arith, refl)
 
 mul-table : tie.Need-mul-table Inv-loop μ-loop
 mul-table c = search needs
 
 shared-slice-read-table : tie.Need-shared-slice-read-table Inv-loop μ-loop
 shared-slice-read-table c = search needs
+
+add-table : tie.Need-add-table Inv-loop μ-loop
+add-table c = search needs
 
 mul-table-2 : tie.Need-mul-table-2 Inv-loop μ-loop
 mul-table-2 c = search needs
@@ -37,7 +41,13 @@ loop-less : tie.Need-loop-less Inv-loop μ-loop
 loop-less c = search needs
 
 loop-again : tie.Need-loop-again Inv-loop μ-loop
-loop-again c = (one-more _ _ _ _ (c .before .before .loop .inv .0) (omega arith) (omega arith), omega arith, rw length-set (c .before .before .loop .inv .2))
+loop-again c =
+    let l = c .before .before .loop in
+    let a = c .before .before .before .args in (
+      rw (add-one (l .k), l .inv .0) (paste-suc (now (a .table)) (a .at) (now (a .places)) (l .k) 0 (omega arith) (omega arith)),
+      omega arith,
+      rw length-set (l .inv .2),
+    )
 
 same-length : tie.Need-same-length Inv-loop μ-loop
 same-length c = search needs
@@ -54,6 +64,7 @@ fill-spec =
     loop-holds
     mul-table
     shared-slice-read-table
+    add-table
     mul-table-2
     slice-write-table
     add-k

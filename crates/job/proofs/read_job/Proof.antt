@@ -1,8 +1,12 @@
 -- `job::read_job` meets its contract.
+use Prim.Native.Nat.{_<_}
+use mathlib.Core.Path.{_≡_, ap}
+use native.Mathlib.Omega.{arith}
 use denote.Ref.{now}
-use Rattle.job.proofs.Answers.{both, too-long, taken, crowded, broken, counts, writes}
-use mathlib.Core.Path.{refl}
+use lib.ListN.{length}
 use borrow.Author.Needs.{needs}
+use Rattle.job.specs.Job.{paperJob}
+use Rattle.job.proofs.Answers.{too-long, refused-first, first-in-file, room-for-first, taken-first, refused-later}
 use Rattle.job.proofs.read_job.Statement.{statement}
 use Rattle.job.proofs.read_job.Tie as tie
 
@@ -10,45 +14,68 @@ plain-requires : tie.Need-plain-requires
 plain-requires c κs = search needs
 
 returns : tie.Need-returns
-returns c = let a = c .before .before .before .before .args in both (a .clause) (now (a .file)) (now (a .offsets)) _ _ _
-    (too-long (a .clause) (now (a .file)) _ (c .before .if1 .taken)) (rw (c .plain .ensures)) refl
+returns c =
+    let a = c .before .before .before .before .args in
+    rw (c .plain .ensures) (too-long (a .clause) (now (a .file)) (now (a .offsets)) (c .before .if1 .taken))
 
-statements-of-requires : tie.Need-statements-of-requires
-statements-of-requires c κs = search needs
+next-item-requires : tie.Need-next-item-requires
+next-item-requires c κs = search needs
 
-slice-aggregate-fill : tie.Need-slice-aggregate-fill
-slice-aggregate-fill c = search needs
+first-read-requires : tie.Need-first-read-requires
+first-read-requires c κs = search needs
 
-fill-requires : tie.Need-fill-requires
-fill-requires c κs = search needs
+enum-known-next : tie.Need-enum-known-next
+enum-known-next c = search needs
+
+rest-of-requires : tie.Need-rest-of-requires
+rest-of-requires c κs = search needs
+
+enum-told : tie.Need-enum-told
+enum-told c = search needs
+
+cast-offsets : tie.Need-cast-offsets
+cast-offsets c = omega (
+  arith,
+  first-in-file (c .before .before .before .before .before .before .before .before .before .before .before .before .before .before .before .args .clause) (now (c .before .before .before .before .before .before .before .before .before .before .before .before .before .before .before .args .file)) (now (c .before .before .before .before .before .before .before .before .before .before .before .before .before .before .before .args .offsets)) (c .before .before .before .before .before .before .before .before .before .before .before .before .if1 .left) _ (c .before .before .before .before .before .before .before .before .before .before .before .next-item .ensures .is) _
+      (c .before .before .before .before .before .before .before .before .before .before .first-read .ensures) _ _ (c .before .before .before .before .before .before .before .before .next .given .1),
+)
+
+slice-write-offsets : tie.Need-slice-write-offsets
+slice-write-offsets c =
+    let later = c .before .before .before .before .before .rest-of in
+    let some =
+    room-for-first (c .before .before .before .before .before .before .before .before .before .before .before .before .before .before .before .args .clause) (now (c .before .before .before .before .before .before .before .before .before .before .before .before .before .before .before .args .file)) (now (c .before .before .before .before .before .before .before .before .before .before .before .before .before .before .before .args .offsets)) (c .before .before .before .before .before .before .before .before .before .before .before .before .if1 .left) _ (c .before .before .before .before .before .before .before .before .before .before .before .next-item .ensures .is) _
+    (c .before .before .before .before .before .before .before .before .before .before .first-read .ensures) _ _ (c .before .before .before .before .before .before .before .before .next .given .1) _ _ (later .ensures) _ (ap paperJob (c .before .enum-told .given .1)) in
+    let kept : length (later .last .1 .1 .1 .1 .0) ≡ length (now (c .before .before .before .before .before .before .before .before .before .before .before .before .before .before .before .args .offsets)) = later .kept .1 .1 .1 .1 .0 in
+    let fits : 0 < length (later .last .1 .1 .1 .1 .0) = omega arith in
+    fits
+
+enum-told-2 : tie.Need-enum-told-2
+enum-told-2 c = search needs
+
+enum-known-refusal : tie.Need-enum-known-refusal
+enum-known-refusal c = search needs
 
 same-length : tie.Need-same-length
 same-length c = search needs
 
 returns-2 : tie.Need-returns-2
-returns-2 c = let a = c .before .before .before .before .before .before .before .before .before .before .before .before .args in
-    both (a .clause) (now (a .file)) (now (a .offsets)) _ _ _ (taken (a .clause) (now (a .file)) _
-    (c .before .before .before .before .before .before .before .before .before .if1 .left) _
-    (c .before .before .before .before .before .before .before .before .statements-of .ensures .0)
-    (c .before .before .before .before .before .before .before .if2 .taken)
-    (c .before .before .before .before .before .before .before .before .statements-of .ensures .1)
-    (c .before .before .before .before .before .before .if3 .taken))
-    (counts _ _ (c .before .before .before .before .before .before .before .before .statements-of .ensures .1))
-    (writes _ _ _ _ (c .before .before .before .before .before .before .before .before .statements-of .ensures .1) (c .before .before .fill .ensures))
+returns-2 c =
+    let later = c .before .before .before .before .before .rest-of in
+    taken-first (c .before .before .before .before .before .before .before .before .before .before .before .before .before .before .before .args .clause) (now (c .before .before .before .before .before .before .before .before .before .before .before .before .before .before .before .args .file)) (now (c .before .before .before .before .before .before .before .before .before .before .before .before .before .before .before .args .offsets)) (c .before .before .before .before .before .before .before .before .before .before .before .before .if1 .left) _ (c .before .before .before .before .before .before .before .before .before .before .before .next-item .ensures .is) _
+    (c .before .before .before .before .before .before .before .before .before .before .first-read .ensures) _ _ (c .before .before .before .before .before .before .before .before .next .given .1) _ _ (later .ensures) _ (ap paperJob (c .before .enum-told .given .1)) (later .kept .1 .1 .1 .1 .0)
 
-plain-requires-2 : tie.Need-plain-requires-2
-plain-requires-2 c κs = search needs
+same-length-2 : tie.Need-same-length-2
+same-length-2 c = search needs
 
 returns-3 : tie.Need-returns-3
-returns-3 c = let a = c .before .before .before .before .before .before .before .args in
-    both (a .clause) (now (a .file)) (now (a .offsets)) _ _ _ (crowded (a .clause) (now (a .file)) _ (c .before .before .before .before .if1 .left) _
-    (c .before .before .before .statements-of .ensures .0) (c .before .before .if2 .taken) (c .before .before .before .statements-of .ensures .1)
-    (c .before .if3 .left)) (rw (c .plain2 .ensures)) refl
+returns-3 c =
+    refused-later (c .before .before .before .before .before .before .before .before .before .before .before .before .before .before .args .clause) (now (c .before .before .before .before .before .before .before .before .before .before .before .before .before .before .args .file)) (now (c .before .before .before .before .before .before .before .before .before .before .before .before .before .before .args .offsets)) (c .before .before .before .before .before .before .before .before .before .before .before .if1 .left) _ (c .before .before .before .before .before .before .before .before .before .before .next-item .ensures .is) _
+    (c .before .before .before .before .before .before .before .before .before .first-read .ensures) _ _ (c .before .before .before .before .before .before .before .next .given .1) _ _ (c .before .before .before .before .rest-of .ensures) _ _ (ap paperJob (c .enum-told2 .given .1))
 
 returns-4 : tie.Need-returns-4
-returns-4 c = let a = c .before .before .before .before .before .before .args in
-    both (a .clause) (now (a .file)) (now (a .offsets)) _ _ _ (broken (a .clause) (now (a .file)) _ (c .before .before .before .if1 .left)
-    (c .before .before .statements-of .result) (c .before .before .statements-of .ensures .0) (c .before .if2 .left)) refl refl
+returns-4 c = refused-first (c .before .before .before .before .before .before .before .before .args .clause) (now (c .before .before .before .before .before .before .before .before .args .file)) (now (c .before .before .before .before .before .before .before .before .args .offsets)) (c .before .before .before .before .before .if1 .left) _ (c .before .before .before .before .next-item .ensures .is) _
+    (c .before .before .before .first-read .ensures) _ (c .before .refusal .given .1)
 
 pub read-job-spec : {M : Type 1} → statement M
 read-job-spec =
@@ -56,11 +83,17 @@ read-job-spec =
     (tie.spec
     plain-requires
     returns
-    statements-of-requires
-    slice-aggregate-fill
-    fill-requires
+    next-item-requires
+    first-read-requires
+    enum-known-next
+    rest-of-requires
+    enum-told
+    cast-offsets
+    slice-write-offsets
+    enum-told-2
+    enum-known-refusal
     same-length
     returns-2
-    plain-requires-2
+    same-length-2
     returns-3
     returns-4)

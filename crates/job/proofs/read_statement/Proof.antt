@@ -1,10 +1,19 @@
 -- `job::read_statement` meets its contract.
-use Rattle.job.proofs.Fills.{tail-all}
+use Prim.Native.Nat.{ℕ, _-_}
+use mathlib.Core.Path.{_≡_}
+use mathlib.Core.List.{List}
+use native.Mathlib.Nat.{le-of-eq}
+use lib.ListN.{length, take, drop, length-drop}
+use lib.Seq.{take-all}
 use Rattle.job.specs.Statement.{readStatement}
 use borrow.Author.Tests.{le-leb, lt-leb}
 use borrow.Author.Needs.{needs}
 use Rattle.job.proofs.read_statement.Statement.{statement}
 use Rattle.job.proofs.read_statement.Tie as tie
+
+-- the part from at on is the list without its first at elements
+tail-all : (s : List ℕ) (at : ℕ) → take (length s - at) (drop at s) ≡ drop at s
+tail-all s at = take-all (length s - at) (drop at s) (le-of-eq (length-drop at s))
 
 plain-requires : tie.Need-plain-requires
 plain-requires c κs = search needs
