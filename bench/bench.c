@@ -55,17 +55,24 @@ static size_t cell_count, columns;
 
 static struct {
     rb_result returned;
-    uint32_t offsets[64];
+    uint32_t offsets[RB_MAX_STATEMENTS];
     rb_session_number number;
     rb_ticket ticket;
     rb_command_number command;
     size_t count, lines;
-    uint8_t out[4096];
+    uint8_t out[RB_MAX_REPLY_BYTES];
 } left;
 
 /* What reading and writing a report leave: ours and theirs. */
 static rb_part left_cells[2][REPORT_CELLS];
 static uint8_t left_report[2][REPORT_BYTES];
+
+/* ---- job files */
+
+enum file_kind { TYPICAL, LONG_STRINGS, COMMENTS, REFUSED_EARLY, REFUSED_LATE };
+
+/* As many statements as a file could have when its case was first measured, so that it can be compared. */
+#define EARLIER_STATEMENTS 64
 
 static void add(const char *s) {
     size_t n = strlen(s);
@@ -103,7 +110,7 @@ static void long_strings(void) {
     memset(s, 'p', 255);
     s[255] = 0;
     begin_file();
-    for (int i = 1; i < 64; i++) {
+    for (int i = 1; i < EARLIER_STATEMENTS; i++) {
         add("UPLOAD \""); add(s); add("\" \""); add(s); add("\" START "); add("p = \""); add(s); add("\";\n");
     }
     end_file();
@@ -111,7 +118,7 @@ static void long_strings(void) {
 
 static void comments(void) {
     begin_file();
-    for (int i = 1; i < 64; i++) {
+    for (int i = 1; i < EARLIER_STATEMENTS; i++) {
         for (int k = 0; k < 12; k++) add("// what the shift wrote about this statement, and why it stands here\r\n");
         statement(i - 1);
     }
@@ -134,9 +141,10 @@ static void usual_record(uint32_t outcome) {
     record.number = 17, record.outcome = outcome, record.error_class = 7, record.code = 120045, record.date = 20240430, record.time = 60000;
 }
 
-/* The permitted record whose digits take the most subtractions. */
+/* The permitted record whose digits take the most subtractions: of all numbers up to the limit, those of the last but one come to the most. */
 static void most_digits(void) {
-    record.number = 59, record.outcome = 1, record.error_class = 99, record.code = 99999999, record.date = 99990929, record.time = 195959;
+    record.number = RB_MAX_COMMANDS - 1, record.outcome = 1, record.error_class = 99, record.code = 99999999, record.date = 99990929,
+    record.time = 195959;
 }
 
 /* ---- reports */
@@ -191,7 +199,7 @@ static void make_report(enum report_kind kind, size_t bytes) {
     made_bytes = bytes;
     seed = 17;
     report_bytes = 0;
-    columns = kind == NARROW ? 64 : 8;
+    columns = kind == NARROW ? RB_MAX_COLUMNS : 8;
     delimiter = (uint8_t)";,|\t;"[kind];
     for (size_t i = 0; i < columns; i++) put_text(names[i % 8]), put_byte(i + 1 < columns ? delimiter : 13);
     put_byte(10);
@@ -211,7 +219,7 @@ static void put(size_t row, uint32_t a, uint32_t b, uint32_t c, uint32_t d) {
     memcpy(table + 16 * row, v, 16);
 }
 
-static size_t row_of(uint32_t s, uint32_t c) { return 1 + 66 * (size_t)s + (c ? 1 + c : 0); }
+static size_t row_of(uint32_t s, uint32_t c) { return 1 + (2 + RB_MAX_COMMANDS) * (size_t)s + (c ? 1 + c : 0); }
 
 static void session(uint32_t s, uint32_t p, uint32_t count, uint32_t answered) {
     put(row_of(s, 0), 1, p, count, answered);
@@ -235,7 +243,7 @@ static void sessions(uint32_t n, uint32_t count, uint32_t answered, bool last_st
     memset(table, 0, sizeof table);
     for (uint32_t s = 0; s + 1 < n; s++) session(s, 1 + s % 8, count, count);
     if (last_stands) session(n - 1, 3, count, answered);
-    put(0, 32, n, n - 1, in_hand ? n : 0);
+    put(0, RB_MAX_SESSIONS, n, n - 1, in_hand ? n : 0);
     program = 3;
     ticket.n = n;
     command.n = answered + 1;
@@ -244,19 +252,20 @@ static void sessions(uint32_t n, uint32_t count, uint32_t answered, bool last_st
 
 /* ---- the calls of each side */
 
-enum call { READ, IS_DATE, WRITE, WRITE_NAME, READ_REPORT, WRITE_REPORT, PLACE, TAKE_UP, ANSWER, COLLECT };
+enum call { READ, IS_DATE, WRITE, WRITE_NAME, READ_REPORT, WRITE_REPORT, MAKE, PLACE, TAKE_UP, ANSWER, COLLECT };
 
 static void ours(enum call call) {
     switch (call) {
-    case READ: left.returned = rb_read_job(file, file_bytes, false, left.offsets, 64, &left.count); break;
+    case READ: left.returned = rb_read_job(file, file_bytes, false, left.offsets, RB_MAX_STATEMENTS, &left.count); break;
     case IS_DATE: left.returned = rb_is_real_date(date); break;
     case WRITE:
         left.returned = rb_write_record((rb_command_number){record.number}, record.outcome, record.error_class, record.code, text, text_bytes,
-                                        record.date, record.time, left.out, 400, &left.count);
+                                        record.date, record.time, left.out, sizeof left.out, &left.count);
         break;
-    case WRITE_NAME: left.returned = rb_write_file_name(session_number, RB_FILE_REQUEST, 32, left.out, 400, &left.count); break;
+    case WRITE_NAME: left.returned = rb_write_file_name(session_number, RB_FILE_REQUEST, 32, left.out, sizeof left.out, &left.count); break;
     case READ_REPORT: left.returned = rb_read_report(report, report_bytes, delimiter, left_cells[0], REPORT_CELLS, &left.count, &left.lines); break;
     case WRITE_REPORT: left.returned = rb_write_report(report, report_bytes, cells, cell_count, columns, delimiter, left_report[0], REPORT_BYTES, &left.count); break;
+    case MAKE: left.returned = rb_table_make(table, sizeof table, RB_MAX_SESSIONS); break;
     case PLACE: left.returned = rb_table_place(table, sizeof table, 5, 12, &left.number, &left.ticket); restore(); break;
     case TAKE_UP: left.returned = rb_table_take_up(table, sizeof table, &left.number, &left.ticket, &left.command); restore(); break;
     case ANSWER: left.returned = rb_table_answer(table, sizeof table, ticket, command, 1, 7, 120045, 20240430, 60000); restore(); break;
@@ -266,15 +275,16 @@ static void ours(enum call call) {
 
 static void theirs(enum call call) {
     switch (call) {
-    case READ: left.returned = plain_read_job(file, file_bytes, false, left.offsets, 64, &left.count); break;
+    case READ: left.returned = plain_read_job(file, file_bytes, false, left.offsets, RB_MAX_STATEMENTS, &left.count); break;
     case IS_DATE: left.returned = plain_is_real_date(date); break;
     case WRITE:
         left.returned = plain_write_record(record.number, record.outcome, record.error_class, record.code, text, text_bytes, record.date,
-                                           record.time, left.out, 400, &left.count);
+                                           record.time, left.out, sizeof left.out, &left.count);
         break;
-    case WRITE_NAME: left.returned = plain_write_file_name(session_number.n, RB_FILE_REQUEST, 32, left.out, 400, &left.count); break;
+    case WRITE_NAME: left.returned = plain_write_file_name(session_number.n, RB_FILE_REQUEST, 32, left.out, sizeof left.out, &left.count); break;
     case READ_REPORT: left.returned = plain_read_report(report, report_bytes, delimiter, left_cells[1], REPORT_CELLS, &left.count, &left.lines); break;
     case WRITE_REPORT: left.returned = plain_write_report(report, report_bytes, cells, cell_count, columns, delimiter, left_report[1], REPORT_BYTES, &left.count); break;
+    case MAKE: left.returned = plain_make(table, sizeof table, RB_MAX_SESSIONS); break;
     case PLACE: left.returned = plain_place(table, sizeof table, 5, 12, &left.number.n, &left.ticket.n); restore(); break;
     case TAKE_UP: left.returned = plain_take_up(table, sizeof table, &left.number.n, &left.ticket.n, &left.command.n); restore(); break;
     case ANSWER: left.returned = plain_answer(table, sizeof table, ticket.n, command.n, 1, 7, 120045, 20240430, 60000); restore(); break;
@@ -290,7 +300,7 @@ struct measured {
     int kind, size;
 };
 
-static struct measured cases[80];
+static struct measured cases[100];
 static int case_count;
 
 static void new_case(const char *name, enum call call, int kind, int size) {
@@ -302,17 +312,25 @@ static void new_case(const char *name, enum call call, int kind, int size) {
 }
 
 static void all_cases(void) {
-    static const char *const reads[] = {"read/short", "read/typical", "read/64-statements", "read/long-strings", "read/comments",
-                                        "read/refused-early", "read/refused-late"};
     static const struct { const char *name; enum report_kind kind; int bytes; } reports[] = {
         {"10KB", MIXED, 10000}, {"100KB", MIXED, 100000}, {"1MB", MIXED, 1000000}, {"10MB", MIXED, 10000000},
         {"numbers", NUMBERS, 1000000}, {"strings", STRINGS, 1000000}, {"narrow", NARROW, 1000000}, {"refused-late", REFUSED, 1000000}};
     static const char *const calls[] = {"place", "take-up", "answer", "collect"};
+    const int most = RB_MAX_STATEMENTS;
     char name[40];
-    for (int i = 0; i < 7; i++) new_case(reads[i], READ, i, 0);
-    for (int n = 1; n <= 64; n *= 2) {
-        sprintf(name, "read-growth/%d", n);
-        new_case(name, READ, 7, n);
+    new_case("read/short", READ, TYPICAL, 2);
+    new_case("read/typical", READ, TYPICAL, 12);
+    for (int i = 0; i < 2; i++) {
+        sprintf(name, "read/%d-statements", i ? most : EARLIER_STATEMENTS);
+        new_case(name, READ, TYPICAL, i ? most : EARLIER_STATEMENTS);
+    }
+    new_case("read/long-strings", READ, LONG_STRINGS, 0);
+    new_case("read/comments", READ, COMMENTS, 0);
+    new_case("read/refused-early", READ, REFUSED_EARLY, 0);
+    new_case("read/refused-late", READ, REFUSED_LATE, 0);
+    for (int n = 1; n < 2 * most; n *= 2) { /* powers of two, and the most */
+        sprintf(name, "read-growth/%d", n < most ? n : most);
+        new_case(name, READ, TYPICAL, n < most ? n : most);
     }
     new_case("is-date/28-april", IS_DATE, 20240428, 0);
     new_case("is-date/30-april", IS_DATE, 20240430, 0);
@@ -331,14 +349,15 @@ static void all_cases(void) {
         sprintf(name, "%s/%s", i < 8 ? "read-report" : "write-report", reports[i % 8].name);
         new_case(name, i < 8 ? READ_REPORT : WRITE_REPORT, (int)reports[i % 8].kind, reports[i % 8].bytes);
     }
+    new_case("make/full", MAKE, RB_MAX_COMMANDS, 32);
     for (int c = 0; c < 4; c++) {
         sprintf(name, "%s/empty", calls[c]);
         new_case(name, (enum call)(PLACE + c), 1, 1);
         sprintf(name, "%s/full", calls[c]);
-        new_case(name, (enum call)(PLACE + c), 64, 32);
+        new_case(name, (enum call)(PLACE + c), RB_MAX_COMMANDS, 32);
         for (int n = 1; n <= 32; n *= 2) {
             sprintf(name, "%s-growth/%d", calls[c], n);
-            new_case(name, (enum call)(PLACE + c), 64, n);
+            new_case(name, (enum call)(PLACE + c), RB_MAX_COMMANDS, n);
         }
     }
 }
@@ -353,14 +372,11 @@ static void set_up(const struct measured *c) {
     memset(&left, 0, sizeof left);
     switch (c->call) {
     case READ:
-        if (c->kind == 0) typical(2);
-        if (c->kind == 1) typical(12);
-        if (c->kind == 2) typical(64);
-        if (c->kind == 3) long_strings();
-        if (c->kind == 4) comments();
-        if (c->kind == 5) refused_early();
-        if (c->kind == 6) refused_late();
-        if (c->kind == 7) typical(c->size);
+        if (c->kind == TYPICAL) typical(c->size);
+        if (c->kind == LONG_STRINGS) long_strings();
+        if (c->kind == COMMENTS) comments();
+        if (c->kind == REFUSED_EARLY) refused_early();
+        if (c->kind == REFUSED_LATE) refused_late();
         break;
     case IS_DATE: date = (uint32_t)c->kind; break;
     case WRITE:
@@ -372,6 +388,7 @@ static void set_up(const struct measured *c) {
     case WRITE_NAME: session_number.n = (uint32_t)c->kind; break;
     case READ_REPORT:
     case WRITE_REPORT: make_report((enum report_kind)c->kind, (size_t)c->size); break;
+    case MAKE: sessions(n, count, count, true, false); break;
     case PLACE: sessions(n, count, 0, false, false); break;
     case TAKE_UP: sessions(n, count, count - 1, true, false); break;
     case ANSWER: sessions(n, count, count - 1, true, true); break;
@@ -380,13 +397,14 @@ static void set_up(const struct measured *c) {
 }
 
 static void compare(const struct measured *c) {
-    static uint8_t first[sizeof left];
+    static uint8_t first[sizeof left], first_table[sizeof table];
     set_up(c);
     ours(c->call);
     memcpy(first, &left, sizeof left);
+    memcpy(first_table, table, sizeof table);
     set_up(c);
     theirs(c->call);
-    bool differ = memcmp(first, &left, sizeof left);
+    bool differ = memcmp(first, &left, sizeof left) || memcmp(first_table, table, sizeof table);
     if (c->call == READ_REPORT) differ |= memcmp(left_cells[0], left_cells[1], sizeof cells) != 0;
     if (c->call == WRITE_REPORT) differ |= memcmp(left_report[0], left_report[1], sizeof report) != 0;
     if (differ) {

@@ -1,5 +1,5 @@
 # Draws how the instructions of each call grow with its input: one panel for each call, ours drawn full and plain C dashed.
-# Reads lines of: case, size, side, instructions; those of the cases NAME-growth/N.
+# Reads lines of: case, size, side, instructions; those of the cases NAME-growth/N. -v commands=N says how many commands a session has there.
 $1 ~ /-growth\// {
     split($1, part, "-growth/")
     call = part[1]
@@ -29,7 +29,7 @@ END {
         call = name[p]
         left = 30 + 280 * ((p - 1) % 3)
         top = 10 + 190 * int((p - 1) / 3)
-        unit = call == "read" ? "bytes of the file" : call == "write" ? "bytes of text" : "sessions of 64 commands"
+        unit = call == "read" ? "bytes of the file" : call == "write" ? "bytes of text" : "sessions of " commands " commands"
         printf "<path d=\"M%d,%d V%d H%d\" fill=\"none\" stroke=\"black\"/>\n", left, top + 15, top + 140, left + 225
         printf "<text x=\"%d\" y=\"%d\">%s: up to %d instructions</text>\n", left, top + 10, call, most_y[call]
         printf "<text x=\"%d\" y=\"%d\">0 to %d %s</text>\n", left, top + 155, most_x[call], unit

@@ -39,8 +39,8 @@ static size_t print_record(char *out, size_t room, uint32_t number, uint32_t out
 
 uint32_t plain_write_record(uint32_t number, uint32_t outcome, uint32_t error_class, uint32_t code, const uint8_t *text, size_t text_bytes,
                             uint32_t date, uint32_t time, uint8_t *out, size_t room, size_t *written) {
-    char record[308];
-    if (number < 1 || number > 64 || !is_outcome(outcome, error_class, code) || !is_text(text, text_bytes)) return 7;
+    char record[RB_MAX_RECORD_BYTES + 1];
+    if (number < 1 || number > RB_MAX_COMMANDS || !is_outcome(outcome, error_class, code) || !is_text(text, text_bytes)) return 7;
     if (!plain_is_real_date(date) || !plain_is_real_time(time)) return 5;
     size_t n = print_record(record, sizeof record, number, outcome, error_class, code, text, text_bytes, date, time);
     if (n > room) return 8;
@@ -141,7 +141,7 @@ rb_result plain_read_report(const uint8_t *file, size_t n, uint8_t delimiter, rb
     size_t names, values, count = 0;
     if (!is_delimiter(delimiter)) return 11;
     const uint8_t *p = after_line(file, limit, delimiter, false, &names);
-    if (!p || names > 64) return 7;
+    if (!p || names > RB_MAX_COLUMNS) return 7;
     for (; p < limit; count++) {
         const uint8_t *next = after_line(p, limit, delimiter, true, &values);
         if (!next || values != names) return 256 * (rb_result)(p - file) + 7;
@@ -156,7 +156,7 @@ rb_result plain_read_report(const uint8_t *file, size_t n, uint8_t delimiter, rb
 
 rb_result plain_write_report(const uint8_t *source, size_t n, const rb_part *cells, size_t cell_count, size_t columns, uint8_t delimiter,
                              uint8_t *out, size_t room, size_t *used) {
-    if (!is_delimiter(delimiter) || columns < 1 || columns > 64) return 11;
+    if (!is_delimiter(delimiter) || columns < 1 || columns > RB_MAX_COLUMNS) return 11;
     if (cell_count == 0 || cell_count % columns) return 7;
     size_t needed = cell_count + cell_count / columns;
     for (size_t i = 0; i < cell_count; i++) {
@@ -190,12 +190,12 @@ struct entry {
 
 struct session {
     uint32_t taken, program, count, answered, ticket, spare[3];
-    struct entry entries[64];
+    struct entry entries[RB_MAX_COMMANDS];
 };
 
 struct table {
     uint32_t max, last, mark, hand;
-    struct session sessions[32];
+    struct session sessions[RB_MAX_SESSIONS];
 };
 
 static bool is_entry(const struct entry *e) {
@@ -204,7 +204,8 @@ static bool is_entry(const struct entry *e) {
 
 static bool is_session(const struct table *t, uint32_t s) {
     const struct session *x = &t->sessions[s];
-    if (s >= t->max || x->program < 1 || x->program > 8 || x->count < 1 || x->count > 64 || x->answered > x->count || x->ticket < 1 || x->ticket > t->last)
+    if (s >= t->max || x->program < 1 || x->program > 8 || x->count < 1 || x->count > RB_MAX_COMMANDS || x->answered > x->count ||
+        x->ticket < 1 || x->ticket > t->last)
         return false;
     for (uint32_t i = 0; i < s; i++)
         if (t->sessions[i].taken && t->sessions[i].ticket == x->ticket) return false;
@@ -234,7 +235,7 @@ uint32_t plain_make(uint8_t *table, size_t n, uint32_t max) {
 uint32_t plain_place(uint8_t *table, size_t n, uint32_t program, uint32_t count, uint32_t *number, uint32_t *ticket) {
     struct table *t = (struct table *)(void *)table;
     if (!is_sound(t, n)) return 13;
-    if (program < 1 || program > 8 || count < 1 || count > 64) return 11;
+    if (program < 1 || program > 8 || count < 1 || count > RB_MAX_COMMANDS) return 11;
     uint32_t s = 0;
     while (s < t->max && t->sessions[s].taken) s++;
     if (s == t->max) return 9;
@@ -282,7 +283,7 @@ uint32_t plain_answer(uint8_t *table, size_t n, uint32_t ticket, uint32_t comman
 
 uint32_t plain_collect(uint8_t *table, size_t n, uint32_t program, uint32_t ticket, uint8_t *out, size_t room, size_t *written) {
     struct table *t = (struct table *)(void *)table;
-    char reply[3320];
+    char reply[RB_MAX_REPLY_BYTES + 1];
     size_t at = 0;
     if (!is_sound(t, n)) return 13;
     if (program < 1 || program > 8) return 11;

@@ -103,7 +103,7 @@ static uint32_t moment_refusal(enum point at, enum class c, const uint8_t *token
 }
 
 uint32_t plain_read_job(const uint8_t *file, size_t n, bool clause_optional, uint32_t *offsets, size_t places, size_t *statements) {
-    uint32_t found[64];
+    uint32_t found[RB_MAX_STATEMENTS];
     size_t count = 0;
     enum point at = P_FIRST;
     if (n > 65535) return 1;
@@ -114,8 +114,8 @@ uint32_t plain_read_job(const uint8_t *file, size_t n, bool clause_optional, uin
         if (c > C_END) return place + no_token_number[c - C_STRAY];
         if (at == P_BETWEEN || at == P_FIRST) {
             if (c == C_END && at == P_BETWEEN) break;
-            if (c != C_END && count == 64) return place + 6;
-            if (count < 64) found[count] = (uint32_t)(token - file);
+            if (c != C_END && count == RB_MAX_STATEMENTS) return place + 6;
+            if (count < RB_MAX_STATEMENTS) found[count] = (uint32_t)(token - file);
         }
         uint8_t next = after[at][c];
         if (at == P_MOVE_START && c == C_SEMICOLON && !clause_optional) next = 0;

@@ -18,13 +18,18 @@
 
 #define MAX_SESSIONS 8
 
+/* How many bytes of a job file's name are read, and the format that reads so many of a line. */
+#define JOB_NAME_BYTES 63
+#define IN_QUOTES(number) #number
+#define LINE_OF(bytes) " %" IN_QUOTES(bytes) "[^\r\n]%*[^\n]"
+
 /* What the gateway knows of the session under a number; without a ticket there is none. */
 struct session {
     rb_ticket ticket;
     uint32_t program, count;
     bool written;                   /* its reply stands in the share */
     bool held;                      /* only the number is held: its request is refused */
-    char jobs[RB_MAX_COMMANDS + 1][64]; /* of each command, and one place that shows that there are too many */
+    char jobs[RB_MAX_COMMANDS + 1][JOB_NAME_BYTES + 1]; /* of each command, and one place that shows that there are too many */
 };
 
 static uint8_t table[RB_TABLE_BYTES], copy[RB_TABLE_BYTES];
@@ -54,7 +59,7 @@ static const char *session_file(uint32_t number, uint32_t kind) {
 /* The program's number and the job of each command, one to a line. */
 static bool read_request(FILE *f, struct session *s) {
     if (fscanf(f, "%9u%*[^\n]", &s->program) == 1)
-        while (s->count <= RB_MAX_COMMANDS && fscanf(f, " %63[^\r\n]%*[^\n]", s->jobs[s->count]) == 1) s->count++;
+        while (s->count <= RB_MAX_COMMANDS && fscanf(f, LINE_OF(JOB_NAME_BYTES), s->jobs[s->count]) == 1) s->count++;
     return !ferror(f);
 }
 
@@ -125,7 +130,7 @@ static rb_result run_job(const char *name) {
     size_t statements, n;
     char path[400];
     snprintf(path, sizeof path, "%s/%s", share, name);
-    FILE *f = strlen(name) > 62 || strchr(name, '/') ? NULL : fopen(path, "rb");
+    FILE *f = strlen(name) >= JOB_NAME_BYTES || strchr(name, '/') ? NULL : fopen(path, "rb");
     if (!f) return RB_REFUSAL_OUT_OF_RANGE;
     n = fread(file, 1, sizeof file, f);
     bool was_read = !ferror(f);

@@ -22,7 +22,7 @@ extern "C" {
 
 /* ---- the version: one more with each change of a name, a type, a number or a size of this header */
 
-#define RB_VERSION 6u
+#define RB_VERSION 7u
 
 /* The version of the archive. */
 uint32_t rb_version(void);
@@ -42,7 +42,7 @@ typedef uint64_t rb_result;
 #define RB_REFUSAL_NO_TOKEN 3u            /* a byte that starts no token, a lone !, / or - too */
 #define RB_REFUSAL_UNEXPECTED 4u          /* a token that no legal file has after the tokens before it */
 #define RB_REFUSAL_NOT_REAL 5u            /* a time or date that is not a real one */
-#define RB_REFUSAL_TOO_MANY_STATEMENTS 6u /* any token after 64 statements */
+#define RB_REFUSAL_TOO_MANY_STATEMENTS 6u /* any token after RB_MAX_STATEMENTS statements */
 #define RB_REFUSAL_NOT_A_RECORD 7u        /* record field out of range, bytes that are not a record, or a line that no report has; for
                                            * rb_is_due a number or a string that no job file may have */
 #define RB_REFUSAL_TOO_LITTLE_ROOM 8u     /* lent output too short for the whole answer */
@@ -95,18 +95,18 @@ static inline const char *rb_refusal_text(uint32_t number) {
 /* ---- limits (RB_MAX_) and sizes */
 
 #define RB_MAX_JOB_BYTES 65535u   /* a job file */
-#define RB_MAX_STATEMENTS 64u     /* of a job file */
-#define RB_MAX_COMMANDS 64u       /* of a session */
+#define RB_MAX_STATEMENTS 200u    /* of a job file */
+#define RB_MAX_COMMANDS 200u      /* of a session, and so the largest number of a record */
 #define RB_MAX_SESSIONS 32u       /* of a table: its MaxSessions is 1 to 32 */
 #define RB_MAX_PROGRAM 8u         /* programs are 1 to 8 */
 #define RB_MAX_TEXT_BYTES 255u    /* the content of a string */
 #define RB_MAX_COLUMNS 64u        /* of a report */
 #define RB_MAX_CLASS 99u
 #define RB_MAX_CODE 99999999u
-#define RB_MAX_RECORD_BYTES 307u  /* ERROR, a number of two digits, a text of 255 bytes */
-#define RB_MAX_REPLY_BYTES 3319u  /* 64 ERROR records without text */
+#define RB_MAX_RECORD_BYTES 308u  /* ERROR, a number of three digits, a text of 255 bytes */
+#define RB_MAX_REPLY_BYTES 10492u /* RB_MAX_COMMANDS ERROR records without text */
 #define RB_FILE_NAME_BYTES 12u    /* a session file's name */
-#define RB_TABLE_BYTES 33808u     /* a session table, for every MaxSessions */
+#define RB_TABLE_BYTES 103440u    /* a session table, for every MaxSessions */
 
 /* ---- three counts kept apart: each is a structure of one number, so that a compiler refuses one where another is due. It is passed as
  * the number is, and where it lies the number lies. */
@@ -358,13 +358,16 @@ rb_result rb_read_file_name(const uint8_t *name, size_t name_bytes, uint32_t max
 rb_result rb_write_file_name(rb_session_number number, uint32_t kind, uint32_t max, uint8_t *out, size_t room, size_t *used);
 
 /* ---- the session table, in RB_TABLE_BYTES lent bytes. A ticket names one placing for ever; a session's number is used again once its
- * reply is collected. */
+ * reply is collected.
+ *
+ * A table made by an archive of version 6 or before has another size, and every call refuses it (RB_REFUSAL_UNSOUND): it must be made anew,
+ * in memory of this size. */
 
 /* Makes a fresh table for MaxSessions 1 to 32, whatever the bytes were. RB_REFUSAL_OUT_OF_RANGE, RB_REFUSAL_UNSOUND (not a table's
  * size). */
 rb_result rb_table_make(uint8_t *table, size_t table_bytes, uint32_t max);
 
-/* Places a session of a program (1 to 8) with that many commands (1 to 64).
+/* Places a session of a program (1 to 8) with that many commands (1 to RB_MAX_COMMANDS).
  * RB_REFUSAL_UNSOUND, RB_REFUSAL_OUT_OF_RANGE, RB_REFUSAL_ALL_TAKEN, RB_REFUSAL_NO_TICKET_LEFT. */
 rb_result rb_table_place(uint8_t *table, size_t table_bytes, uint32_t program, uint32_t commands, rb_session_number *number,
                          rb_ticket *ticket);
@@ -389,7 +392,7 @@ bool rb_is_sound(const uint8_t *table, size_t table_bytes);
  * Rows of four numbers, each of four bytes, low byte first.
  * Row 0: MaxSessions, the last ticket, the number last taken up, and what is in hand (0, or one more than the session's number).
  * In a fresh table, where none was taken up yet, MaxSessions - 1 stands for the number last taken up, so that 0 comes first.
- * Then for each session 66 rows: two for its head, and a row for each command.
+ * Then for each session 2 + RB_MAX_COMMANDS rows: two for its head, and a row for each command.
  * The head: whether the number is taken (0 where it is open; any other number where it is taken, and 1 is what is written), program,
  * command count, answers so far; then the ticket, and three numbers that are spare and say nothing.
  * The row of an answered command: 0 for PROCESSED or one more than the class, the code, date, time.

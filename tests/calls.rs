@@ -4,7 +4,7 @@ use crate::generate as make;
 use crate::library::{returned, Library, Message};
 use crate::random::Random;
 use crate::reference::calendar::{is_real_date, is_real_time};
-use crate::reference::job::{self, Body, Missing, Source, Span, Start, Statement, Value, SETTINGS};
+use crate::reference::job::{self, Body, Missing, Source, Span, Start, Statement, Value, OLD_STATEMENTS, SETTINGS, STATEMENTS};
 use crate::reference::name::{read_name, write_name, Kind};
 use crate::reference::record::{read_record, write_record, Outcome, Record};
 use crate::reference::{plain, Refusal};
@@ -179,9 +179,10 @@ pub fn expect_name_written(l: &mut Library, number: u32, kind: u64, max: u32, ro
 
 fn job_calls(r: &mut Random, l: &mut Library) {
     let file = if r.once_in(60) { make::long_file(r) } else { make::job_file(r) };
-    let places = r.pick(&[0, 1, 2, 5, 63, 64, 64, 64, 64, 64, 65, 70]);
+    let few = r.pick(&[0, 1, 2, 5, OLD_STATEMENTS, STATEMENTS - 1]);
+    let places = r.pick(&[few, few, few, few, STATEMENTS, STATEMENTS, STATEMENTS, STATEMENTS, STATEMENTS + 1, STATEMENTS + 6]);
     expect_job(l, &file, places);
-    if let Ok(offsets) = job::read_job(&file, Missing::Immediate, 64) {
+    if let Ok(offsets) = job::read_job(&file, Missing::Immediate, STATEMENTS) {
         let at = r.pick(&offsets);
         expect_statement(l, &file, at as usize);
     }

@@ -1,22 +1,25 @@
-//! Document 01's checked examples, its traps, and the readings that docs/DECISIONS.md names, P1's, P3's, P4's and P7's among them: with the
-//! numbers written out, so that the reference is held against the documents too. Then the library is asked the same.
+//! Document 01's checked examples, its traps, and the readings that docs/DECISIONS.md names, P1's, P3's, P4's, P6's and P7's among them: with
+//! the numbers written out, so that the reference is held against the documents too. Then the library is asked the same.
 
-use crate::calls::{expect_calendar, expect_job, expect_name_read, expect_record_written, expect_statement};
+use crate::calls::{expect_calendar, expect_job, expect_name_read, expect_record_read, expect_record_written, expect_statement, outcome_numbers};
 use crate::library::{returned, Library};
+use crate::random::Random;
 use crate::reference::calendar::{is_real_date, is_real_time};
-use crate::reference::job::{read_job, read_statement, Body, Missing, Start, Value, SETTINGS};
+use crate::reference::job::{read_job, read_statement, Body, Missing, Start, Value, OLD_STATEMENTS, SETTINGS, STATEMENTS};
 use crate::reference::name::read_name;
 use crate::reference::plain;
-use crate::reference::record::{write_record, Outcome, Record};
-use crate::reference::report::{read_report, write_report};
+use crate::reference::record::{read_record, read_record_within, write_record, Outcome, Record, COMMANDS, OLD_COMMANDS};
+use crate::reference::report::{read_report, write_report, COLUMNS};
 use crate::reference::start::Question;
+use crate::reference::table::{put_number, Answer, Table, OLD_TABLE_BYTES, REPLY_BYTES, SESSIONS, TABLE_BYTES};
 use crate::reference::token::number_value;
 use crate::reports::{expect_report_read, expect_report_written};
 use crate::starts::{clause_of, expect_due};
+use crate::tables::{full_table, Lent};
 
 fn job_with(l: &mut Library, file: &[u8], missing: Missing, number: u64, place: u64) {
-    assert_eq!(returned(&read_job(file, missing, 64)), number + 256 * place, "{} {missing:?}", String::from_utf8_lossy(file));
-    expect_job(l, file, 64);
+    assert_eq!(returned(&read_job(file, missing, STATEMENTS)), number + 256 * place, "{} {missing:?}", String::from_utf8_lossy(file));
+    expect_job(l, file, STATEMENTS);
 }
 
 /// A file with what is returned under either setting: 0, or number and place.
@@ -46,6 +49,9 @@ fn statements(n: usize) -> Vec<u8> {
 
 fn job_examples(l: &mut Library) -> usize {
     let head = b"JOB a RESPONSE \"x\"; ";
+    let full = statements(STATEMENTS);
+    // Where so many statements end.
+    let end = |n: usize| 19 + 12 * (n as u64 - 1);
     let cases: Vec<(Vec<u8>, u64, u64)> = vec![
         (b"".to_vec(), 18, 0),
         (b"JOB".to_vec(), 18, 3),
@@ -82,10 +88,16 @@ fn job_examples(l: &mut Library) -> usize {
         (b"JOB 12345678901234567 RESPONSE \"x\";".to_vec(), 17, 4),
         ([&b"JOB "[..], &[b'q'; 255], b" RESPONSE \"x\";"].concat(), 0, 0),
         ([&b"JOB "[..], &[b'q'; 256], b" RESPONSE \"x\";"].concat(), 17, 4),
-        (statements(64), 0, 0),
-        (statements(65), 6, 19 + 63 * 12),
-        ([statements(64), b" !".to_vec()].concat(), 3, 20 + 63 * 12),
-        ([statements(64), b" // end".to_vec()].concat(), 0, 0),
+        (statements(OLD_STATEMENTS), 0, 0),
+        (statements(OLD_STATEMENTS + 1), 0, 0),
+        ([&statements(OLD_STATEMENTS)[..], b"JOB"].concat(), 4, end(OLD_STATEMENTS)),
+        (statements(STATEMENTS - 1), 0, 0),
+        ([&statements(STATEMENTS - 1)[..], b"JOB"].concat(), 4, end(STATEMENTS - 1)),
+        (full.clone(), 0, 0),
+        (statements(STATEMENTS + 1), 6, end(STATEMENTS)),
+        ([&full[..], b"JOB"].concat(), 6, end(STATEMENTS)),
+        ([&full[..], b" !"].concat(), 3, end(STATEMENTS) + 1),
+        ([&full[..], b" // end"].concat(), 0, 0),
         (vec![b' '; 65_535], 18, 65_535),
         (vec![b' '; 65_536], 1, 0),
     ];
@@ -120,8 +132,8 @@ fn clause_examples(l: &mut Library) -> usize {
         (own("DOWNLOAD \"f\" p START p = 1;"), 0, 0, 0, 0),
         (own("UPLOAD \"f\" p START IMMEDIATE; DOWNLOAD \"f\" p; UPLOAD \"f\" p;"), 4, 64, 0, 0),
         (own("GETINFO \"f\"; ABORT REPORT r; ABORT EVENT e;"), 0, 0, 0, 0),
-        ("UPLOAD \"f\" p;".repeat(63), 4, 32, 0, 0),
-        ("UPLOAD \"f\" p;".repeat(64), 4, 32, 6, 20 + 63 * 13),
+        ("UPLOAD \"f\" p;".repeat(STATEMENTS - 1), 4, 32, 0, 0),
+        ("UPLOAD \"f\" p;".repeat(STATEMENTS), 4, 32, 6, 20 + 13 * (STATEMENTS as u64 - 1)),
     ];
     for (rest, number, place, earlier_number, earlier_place) in &cases {
         let file = own(head) + rest;
@@ -154,6 +166,144 @@ fn other_examples(l: &mut Library) -> usize {
         expect_name_read(l, name, 32);
     }
     14
+}
+
+fn numbered(number: usize, outcome: Outcome, text: &[u8]) -> Record {
+    Record { number: number as u32, outcome, text: text.to_vec(), date: 20240430, time: 235959 }
+}
+
+/// P6: "n in a record may now have three digits". The field between COMMAND and PROCESSED, and what its record is refused with; what is taken
+/// is written from its number too.
+fn record_numbers(l: &mut Library) -> usize {
+    let mut cases: Vec<(String, u64)> = Vec::new();
+    for n in [1, 9, 10, OLD_COMMANDS, OLD_COMMANDS + 1, 99, 100, 101, COMMANDS - 1, COMMANDS] {
+        cases.push((n.to_string(), 0));
+        cases.push((format!("0{n}"), 7));
+        cases.push((format!("{n}0"), if 10 * n <= COMMANDS { 0 } else { 7 }));
+    }
+    for n in [0, COMMANDS + 1, 255, 256, 257, 999, 1000, u32::MAX as usize, (1 << 32) + 1] {
+        cases.push((n.to_string(), 7));
+    }
+    for digits in ["", "000", "18446744073709551617", "2 0", "2O0", "-1", "+1", "1.0"] {
+        cases.push((digits.to_string(), 7));
+    }
+    for (digits, number) in &cases {
+        let bytes = format!("COMMAND {digits} PROCESSED \"\" 20240430 23:59:59;\r\n").into_bytes();
+        assert_eq!(returned(&read_record(&bytes)), *number, "{digits}");
+        expect_record_read(l, &bytes);
+        if let Some(n) = digits.parse().ok().filter(|n: &u32| n.to_string() == *digits) {
+            let record = numbered(n as usize, Outcome::Processed, b"");
+            assert_eq!(write_record(&record, usize::MAX), if *number == 0 { Ok(bytes) } else { plain(*number as u32) });
+            expect_record_written(l, &record, [0, 0, 0], 60);
+        }
+    }
+    cases.len()
+}
+
+/// P6: "a full reply of ERROR records with 255-byte texts is 61,492 bytes", and "Older host readers refuse records above 64 with 7 and never
+/// misread one": of the bytes that the library writes, an older reader takes those that it took before, as what they are, and no others.
+fn every_number(l: &mut Library) -> usize {
+    let error = Outcome::Error { class: 99, code: 99_999_999 };
+    let mut lengths = [0; 3];
+    for n in 1..=COMMANDS {
+        let records = [numbered(n, error, &[b't'; 255]), numbered(n, error, b""), numbered(n, Outcome::Processed, b"COMMAND 1 PROCESSED ")];
+        for (record, length) in records.iter().zip(&mut lengths) {
+            let bytes = write_record(record, usize::MAX).expect("a record of that number");
+            let (taken, older) = (read_record(&bytes), read_record_within(OLD_COMMANDS, &bytes));
+            assert_eq!(taken.as_ref().map(|(r, _)| r), Ok(record));
+            assert_eq!(older, if n <= OLD_COMMANDS { taken } else { plain(7) }, "{n}");
+            expect_record_written(l, record, outcome_numbers(record.outcome), bytes.len());
+            expect_record_read(l, &bytes);
+            *length += bytes.len();
+        }
+    }
+    assert_eq!(lengths[..2], [61_492, REPLY_BYTES]);
+    COMMANDS * lengths.len()
+}
+
+/// Answers every command of the sessions that stand, and gives how many they were.
+fn answer_all(lent: &mut Lent, outcome: Outcome) -> usize {
+    let mut answers = 0;
+    while let Ok((_, ticket, command)) = lent.take_up() {
+        let answer = Answer { outcome, date: 20240430, time: 235959 };
+        assert_eq!(lent.answer(ticket, command, answer, outcome_numbers(outcome)), Ok(()));
+        answers += 1;
+    }
+    answers
+}
+
+/// P6: "200 commands in a session", and what room its reply can need.
+fn long_sessions(l: &mut Library) -> usize {
+    let mut lent = Lent::new(l, vec![0; TABLE_BYTES]);
+    let outcomes = [(Outcome::Processed, 42), (Outcome::Error { class: 99, code: 99_999_999 }, 50)];
+    let counts = [1, OLD_COMMANDS, OLD_COMMANDS + 1, COMMANDS - 1, COMMANDS];
+    assert_eq!(REPLY_BYTES, 10_492);
+    for count in counts {
+        for (outcome, length) in outcomes {
+            assert_eq!(lent.make(SESSIONS as u32), Ok(()));
+            let (number, ticket) = lent.place(8, count as u32).expect("a session of so many commands");
+            assert_eq!((number, answer_all(&mut lent, outcome)), (0, count));
+            let needed: usize = (1..=count).map(|n| length + n.to_string().len()).sum();
+            assert_eq!(lent.collect(8, ticket, needed - 1), plain(8));
+            assert_eq!(lent.collect(8, ticket, needed).map(|reply| reply.len()), Ok(needed));
+            assert_eq!(lent.collect(8, ticket, needed), plain(10));
+            assert!(needed <= REPLY_BYTES);
+        }
+    }
+    let refused = [0, COMMANDS + 1, 255, 256, 257, 1000, u32::MAX as usize];
+    for count in refused {
+        assert_eq!(lent.place(8, count as u32), plain(11), "{count}");
+    }
+    counts.len() * outcomes.len() + refused.len()
+}
+
+/// Every call on bytes that are no table refuses them, and leaves them as they are.
+fn every_call_is_refused(lent: &mut Lent) {
+    let was = lent.bytes.clone();
+    for max in [0, SESSIONS as u32 + 1, u32::MAX] {
+        assert_eq!(lent.make(max), plain(11));
+    }
+    for max in 1..=SESSIONS as u32 {
+        assert_eq!(lent.make(max), plain(13));
+    }
+    let answer = Answer { outcome: Outcome::Processed, date: 20240430, time: 235959 };
+    assert!(!lent.is_sound());
+    assert_eq!(lent.place(1, 1), plain(13));
+    assert_eq!(lent.place(0, 0), plain(13));
+    assert_eq!(lent.take_up(), plain(13));
+    for ticket in [0, 1, 2, u32::MAX] {
+        assert_eq!(lent.answer(ticket, 1, answer, [0, 0, 0]), plain(13));
+        assert_eq!(lent.collect(1, ticket, REPLY_BYTES), plain(13));
+    }
+    assert!(lent.bytes == was);
+}
+
+/// P6: "Tables in the old size are refused as unsound and must be made anew."
+fn old_tables(l: &mut Library) -> usize {
+    let mut r = Random::new(1);
+    let mut tables: Vec<Vec<u8>> = (1..=SESSIONS).map(|max| full_table(&mut r, OLD_COMMANDS, max)).collect();
+    for max in 1..=SESSIONS as u32 {
+        let mut fresh = vec![0; OLD_TABLE_BYTES];
+        put_number(&mut fresh, 0, 0, max);
+        put_number(&mut fresh, 0, 2, max - 1);
+        tables.push(fresh);
+    }
+    assert!(tables.iter().all(|bytes| Table::of_bytes_within(OLD_COMMANDS, bytes).is_some()), "they were sound");
+    tables.push(vec![0; OLD_TABLE_BYTES]);
+    tables.extend((0..8).map(|_| (0..OLD_TABLE_BYTES).map(|_| r.below(256) as u8).collect()));
+    let mut lent = Lent::new(l, Vec::new());
+    for bytes in &tables {
+        lent.lend(bytes.clone());
+        every_call_is_refused(&mut lent);
+        // Made anew, where its bytes have become as many as a table has now.
+        let mut longer = bytes.clone();
+        longer.resize(TABLE_BYTES, 0x5A);
+        lent.lend(longer);
+        assert_eq!(lent.make(1), Ok(()));
+        assert_eq!(lent.place(1, COMMANDS as u32), Ok((0, 1)));
+        assert!(lent.is_sound());
+    }
+    tables.len()
 }
 
 /// The 29th of February, in a job file and in a record; then the end of February in every year.
@@ -462,10 +612,10 @@ fn reports_read(l: &mut Library) -> usize {
         (own("a;b\r"), 12, 7, 0),
         (own("\r\n"), 12, 7, 0),
         (own("\r\na;b\r\n"), 12, 7, 0),
-        (line("n", 64) + &line("1", 64), 256, 0, 0),
-        (line("n", 65) + &line("1", 65), 300, 7, 0),
-        (line("n", 64) + &line("1", 65), 300, 7, 129),
-        (line("n", 64) + &line("1", 63), 300, 7, 129),
+        (line("n", COLUMNS) + &line("1", COLUMNS), 4 * COLUMNS, 0, 0),
+        (line("n", COLUMNS + 1) + &line("1", COLUMNS + 1), 300, 7, 0),
+        (line("n", COLUMNS) + &line("1", COLUMNS + 1), 300, 7, 2 * COLUMNS as u64 + 1),
+        (line("n", COLUMNS) + &line("1", COLUMNS - 1), 300, 7, 2 * COLUMNS as u64 + 1),
         (long.clone(), 80_002, 0, 0),
         (long.clone(), 80_001, 8, 0),
         (long + "x\r\n", 0, 7, 120_003),
@@ -504,7 +654,7 @@ fn reports_written(l: &mut Library) -> usize {
         (four, 2, b'\t', 18, 0),
         (four, 2, b':', 18, 11),
         (four, 0, b';', 18, 11),
-        (four, 65, b';', 18, 11),
+        (four, COLUMNS + 1, b';', 18, 11),
         (four, MOST, b';', 18, 11),
         (four, 1, b';', 0, 7),
         (four, 3, b';', 0, 7),
@@ -546,12 +696,14 @@ fn reports_written(l: &mut Library) -> usize {
         expect_report_written(l, source, cells, *columns, *delimiter, *room);
     }
     assert_eq!(write_report(source, four, 2, b';', 17).as_deref(), Ok(&b"a;B_1\r\n2.50;\";\"\r\n"[..]));
-    let same = [0, 1].repeat(64);
-    assert_eq!(write_report(source, &same, 64, b';', 129), Ok(line("a", 64).into_bytes()));
-    expect_report_written(l, source, &same, 64, b';', 129);
+    let (same, length) = ([0, 1].repeat(COLUMNS), 2 * COLUMNS + 1);
+    assert_eq!(write_report(source, &same, COLUMNS, b';', length), Ok(line("a", COLUMNS).into_bytes()));
+    expect_report_written(l, source, &same, COLUMNS, b';', length);
     cases.len() + 1
 }
 
 pub fn all(l: &mut Library) -> usize {
-    job_examples(l) + clause_examples(l) + other_examples(l) + februaries(l) + start_examples(l) + reports_read(l) + reports_written(l)
+    let jobs = job_examples(l) + clause_examples(l) + other_examples(l) + februaries(l) + start_examples(l);
+    let limits = record_numbers(l) + every_number(l) + long_sessions(l) + old_tables(l);
+    jobs + limits + reports_read(l) + reports_written(l)
 }

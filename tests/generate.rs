@@ -2,8 +2,9 @@
 
 use crate::random::Random;
 use crate::reference::calendar::{is_real_date, is_real_time};
-use crate::reference::record::{record_bytes, Outcome, Record};
-use crate::reference::report::DELIMITERS;
+use crate::reference::job::{read_statement, Missing, OLD_STATEMENTS, STATEMENTS};
+use crate::reference::record::{record_bytes, Outcome, Record, COMMANDS, OLD_COMMANDS};
+use crate::reference::report::{COLUMNS, DELIMITERS};
 use crate::reference::table;
 use crate::reference::token::{OPERATORS, RESERVED};
 
@@ -242,22 +243,39 @@ pub fn damage_bytes(r: &mut Random, bytes: &mut Vec<u8>) {
     }
 }
 
-/// How many statements: mostly few, often around the limit.
+/// The most statements of a short file.
+const FEW: usize = 6;
+
+/// How many statements: mostly few, often around the limit and around the one before P6.
 fn statement_count(r: &mut Random) -> usize {
-    match r.below(30) {
-        0 => 64,
-        1 => 65,
-        2 => r.from(2, 70),
-        _ => r.from(1, 6),
+    match r.below(80) {
+        0 => STATEMENTS,
+        1 => STATEMENTS + 1,
+        2 => r.pick(&[OLD_STATEMENTS, OLD_STATEMENTS + 1, STATEMENTS - 1]),
+        3 => r.from(2, STATEMENTS + FEW),
+        _ => r.from(1, FEW),
     }
 }
 
-/// In every other file no clause is left out, so that either setting takes some.
+/// The tokens of a statement that is taken: no time or date in it is unreal.
+fn taken_tokens(r: &mut Random, may_lack: bool) -> Vec<Vec<u8>> {
+    loop {
+        let tokens = later_tokens(r, may_lack);
+        if read_statement(&tokens.join(&b' '), Missing::Immediate, 0).is_ok() {
+            return tokens;
+        }
+    }
+}
+
+/// In every other file no clause is left out, so that either setting takes some. A long file is made of a few statements that are taken, else
+/// hardly one would be read up to its end.
 pub fn job_file(r: &mut Random) -> Vec<u8> {
     let mut tokens = job_tokens(r);
     let may_lack = r.once_in(2);
-    for _ in 1..statement_count(r) {
-        tokens.extend(later_tokens(r, may_lack));
+    let count = statement_count(r);
+    let again: Vec<_> = if count > FEW { (0..FEW).map(|_| taken_tokens(r, may_lack)).collect() } else { Vec::new() };
+    for _ in 1..count {
+        tokens.extend(if again.is_empty() { later_tokens(r, may_lack) } else { again[r.below(FEW)].clone() });
     }
     for _ in 0..r.pick(&[0, 0, 0, 1, 1, 2]) {
         damage_tokens(r, &mut tokens);
@@ -436,8 +454,15 @@ pub fn outcome(r: &mut Random) -> Outcome {
     Outcome::Error { class, code }
 }
 
+/// How many commands, or which one: any that the limit permits, often at an end of those, beside the limit before P6, or where the digits
+/// become more.
+pub fn command_count(r: &mut Random, limit: usize) -> usize {
+    let any = r.from(1, limit);
+    r.pick(&[any, any, any, 1, 9, 10, 99, 100, OLD_COMMANDS, OLD_COMMANDS + 1, limit - 1, limit]).min(limit)
+}
+
 pub fn record(r: &mut Random) -> Record {
-    let number = if r.once_in(12) { r.pick(&[0, 65, 100, u32::MAX]) } else { r.from(1, 64) as u32 };
+    let number = if r.once_in(12) { r.pick(&[0, COMMANDS as u32 + 1, 1000, u32::MAX]) } else { command_count(r, COMMANDS) as u32 };
     let mut text = text(r);
     if r.once_in(12) {
         damage_bytes(r, &mut text);
@@ -475,8 +500,8 @@ pub type Rows = Vec<Vec<Vec<u8>>>;
 /// Mostly few, often around the limit.
 fn column_count(r: &mut Random) -> usize {
     match r.below(40) {
-        0 => 64,
-        1 => r.from(6, 64),
+        0 => COLUMNS,
+        1 => r.from(6, COLUMNS),
         2 => 1,
         _ => r.from(1, 5),
     }
@@ -528,7 +553,7 @@ pub fn damage_rows(r: &mut Random, rows: &mut Rows) {
         3 => rows[i].insert(j, any_field(r)),
         4 => rows.swap(0, i),
         5 => {
-            let columns = r.pick(&[64, 65]);
+            let columns = r.pick(&[COLUMNS, COLUMNS + 1]);
             for row in rows.iter_mut() {
                 let more = row.first().cloned().unwrap_or_default();
                 row.resize(columns, more);
@@ -648,7 +673,9 @@ fn near(r: &mut Random, row: usize, command: usize, column: usize) -> u32 {
         (0, _, _) => r.from(0, 34) as u32,
         (_, 0, table::TAKEN) => r.pick(&[0, 1, 2, u32::MAX]),
         (_, 0, table::PROGRAM) => r.pick(&[0, 1, 7, 8, 9]),
-        (_, 0, table::COUNT) | (_, 0, table::ANSWERED) => r.pick(&[0, 1, 2, 3, 63, 64, 65]),
+        (_, 0, table::COUNT) | (_, 0, table::ANSWERED) => {
+            r.pick(&[0, 1, 2, 3, OLD_COMMANDS, OLD_COMMANDS + 1, COMMANDS - 1, COMMANDS, COMMANDS + 1]) as u32
+        }
         (_, 0, _) => r.pick(&[0, 1, 2, 3, u32::MAX]),
         (_, _, 0) => r.pick(&[0, 1, 99, 100, 101, u32::MAX]),
         (_, _, 1) => r.pick(&[0, 99_999_999, 100_000_000, u32::MAX]),
@@ -667,8 +694,8 @@ pub fn damage_table(r: &mut Random, bytes: &mut [u8]) {
     let answered = table::number(bytes, table::row_of(session, 0), table::ANSWERED) as usize;
     let command = match r.below(3) {
         0 => 0,
-        1 if (1..=table::COMMANDS).contains(&answered) => r.from(1, answered),
-        _ => r.below(table::COMMANDS + 1),
+        1 if (1..=COMMANDS).contains(&answered) => r.from(1, answered),
+        _ => r.below(COMMANDS + 1),
     };
     let row = if r.once_in(4) { 0 } else { table::row_of(session, command) };
     let column = r.below(if row != 0 && command == 0 { 5 } else { 4 });

@@ -5,7 +5,7 @@ use crate::calls::{given, written, ROOM_BEFORE};
 use crate::generate as make;
 use crate::library::{Library, Message};
 use crate::random::Random;
-use crate::reference::report::{read_report, write_report, Report, DELIMITERS};
+use crate::reference::report::{read_report, write_report, Report, COLUMNS, DELIMITERS};
 
 /// The places and lengths of the cells, as they are lent.
 fn numbers_of(report: &Report) -> Vec<usize> {
@@ -81,7 +81,7 @@ fn every_writing(l: &mut Library, file: &[u8], numbers: &[usize], columns: usize
     for n in 0..=numbers.len() {
         expect_report_written(l, file, &numbers[..n], columns, delimiter, file.len());
     }
-    for any in (0..=70).chain([1 << 32, 1 << 63, usize::MAX]) {
+    for any in (0..=COLUMNS + 6).chain([1 << 32, 1 << 63, usize::MAX]) {
         expect_report_written(l, file, numbers, any, delimiter, file.len());
     }
     for i in 0..numbers.len() {
@@ -156,7 +156,7 @@ fn any_writing(r: &mut Random, l: &mut Library) {
         source.pop();
     }
     if r.once_in(8) {
-        columns = r.pick(&[0, 1, 2, 63, 64, 65, 66, columns + 1, 2 * columns, usize::MAX]);
+        columns = r.pick(&[0, 1, 2, COLUMNS - 1, COLUMNS, COLUMNS + 1, COLUMNS + 2, columns + 1, 2 * columns, usize::MAX]);
     }
     let mostly = r.pick(&DELIMITERS);
     let delimiter = any_delimiter(r, mostly);

@@ -19,14 +19,23 @@ void _exit(int);
 static uint8_t in[1 << 16];
 static size_t in_at, in_end;
 
-static int byte_in(void) {
-    if (in_at == in_end) {
-        long n = read(0, in, sizeof in);
-        if (n <= 0) return -1;
-        in_at = 0;
-        in_end = (size_t)n;
+static bool is_more(void) {
+    if (in_at < in_end) return true;
+    long n = read(0, in, sizeof in);
+    if (n <= 0) return false;
+    in_at = 0;
+    in_end = (size_t)n;
+    return true;
+}
+
+static int byte_in(void) { return is_more() ? in[in_at++] : -1; }
+
+static void bytes_in(uint8_t *bytes, size_t n) {
+    for (size_t at = 0, some; at < n; at += some, in_at += some) {
+        if (!is_more()) _exit(2);
+        some = in_end - in_at < n - at ? in_end - in_at : n - at;
+        memcpy(bytes + at, in + in_at, some);
     }
-    return in[in_at++];
 }
 
 static uint64_t number_in(void) {
@@ -95,7 +104,7 @@ static uint8_t *lend(struct lent *m, size_t bytes) {
 static uint8_t *lend_in(struct lent *m) {
     size_t n = (size_t)number_in();
     uint8_t *p = lend(m, n);
-    for (size_t i = 0; i < n; i++) p[i] = (uint8_t)byte_in();
+    bytes_in(p, n);
     return p;
 }
 
@@ -115,13 +124,20 @@ static void lent_out(struct lent *m) {
 
 static struct lent first, second, third, table, old;
 
-/* What the last call on the table changed: rows of 16 bytes, each after its number. */
+#define ROW 16
+#define BLOCK (256 * ROW)
+
+/* What the last call on the table changed: rows of 16 bytes, each after its number. Most calls change few, so that blocks of many are
+ * compared first. */
 static void changes_out(void) {
     see_edges(&table);
     uint8_t *now = table.all + 32, *was = old.all + 32;
-    for (size_t at = 0; at < table.bytes; at += 16) {
-        size_t n = table.bytes - at < 16 ? table.bytes - at : 16;
-        if (memcmp(now + at, was + at, n)) {
+    for (size_t block = 0, end; block < table.bytes; block = end) {
+        end = table.bytes - block < BLOCK ? table.bytes : block + BLOCK;
+        if (!memcmp(now + block, was + block, end - block)) continue;
+        for (size_t at = block; at < end; at += ROW) {
+            size_t n = end - at < ROW ? end - at : ROW;
+            if (!memcmp(now + at, was + at, n)) continue;
             number_out(at);
             bytes_out(now + at, n);
             memcpy(was + at, now + at, n);

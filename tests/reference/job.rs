@@ -123,6 +123,12 @@ fn statement_tokens(file: &[u8], from: usize, mut forms: Vec<Form>) -> Result<Ve
     }
 }
 
+/// The most statements of a job file. P6: "Both limits go from 64 to 200."
+pub const STATEMENTS: usize = 200;
+
+/// The limit before P6.
+pub const OLD_STATEMENTS: usize = 64;
+
 /// The offsets of a job file's statements, where `places` are enough for them.
 pub fn read_job(file: &[u8], missing: Missing, places: usize) -> Result<Vec<u32>, Refusal> {
     if file.len() > 65_535 {
@@ -133,7 +139,7 @@ pub fn read_job(file: &[u8], missing: Missing, places: usize) -> Result<Vec<u32>
     loop {
         match next(file, place) {
             Next::End if !offsets.is_empty() => break,
-            Next::Token(t) if offsets.len() == 64 => return at(6, t.start),
+            Next::Token(t) if offsets.len() == STATEMENTS => return at(6, t.start),
             _ => {}
         }
         let forms = if offsets.is_empty() { first_forms() } else { later_forms(missing) };

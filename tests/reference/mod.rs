@@ -1,4 +1,4 @@
-//! Document 01, with P1 to P4 and P7 of 02, once more, in plain Rust: written from the documents' sentences, and from nothing that is proved.
+//! Document 01, with P1 to P4, P6 and P7 of 02, once more, in plain Rust: written from the documents' sentences, and from nothing that is proved.
 //! It is meant to be read beside them, not to be fast.
 
 pub mod calendar;

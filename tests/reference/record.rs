@@ -3,6 +3,13 @@
 use super::calendar::{is_real_date, is_real_time};
 use super::{plain, Refusal};
 
+/// The most commands of a session, and so the largest n of a record. P6: "Both limits go from 64 to 200. n in a record may now have three
+/// digits".
+pub const COMMANDS: usize = 200;
+
+/// The limit before P6: "older host readers" have it.
+pub const OLD_COMMANDS: usize = 64;
+
 #[derive(Clone, Copy, Debug, PartialEq, Eq)]
 pub enum Outcome {
     Processed,
@@ -43,7 +50,12 @@ pub fn record_bytes(r: &Record) -> Vec<u8> {
 
 /// "The writer tests number, class, code and text (7), then date and time (5), then room (8)."
 pub fn write_record(r: &Record, room: usize) -> Result<Vec<u8>, Refusal> {
-    if !(1..=64).contains(&r.number) || !is_outcome(r.outcome) || !is_text(&r.text) {
+    write_record_within(COMMANDS, r, room)
+}
+
+/// The same where the limit of n is another.
+fn write_record_within(limit: usize, r: &Record, room: usize) -> Result<Vec<u8>, Refusal> {
+    if !(1..=limit).contains(&(r.number as usize)) || !is_outcome(r.outcome) || !is_text(&r.text) {
         return plain(7);
     }
     if !is_real_date(r.date) || !is_real_time(r.time) {
@@ -61,6 +73,9 @@ fn digits(bytes: &[u8], width: usize) -> Option<u32> {
     (bytes.len() == width && bytes.iter().all(u8::is_ascii_digit)).then(|| std::str::from_utf8(bytes).unwrap().parse().unwrap())
 }
 
+/// The most digits that a number of 32 bits has room for, whichever they are.
+const DIGITS_MOST: usize = 9;
+
 /// What the bytes would be a record of: the writer decides whether they are.
 fn guess(bytes: &[u8]) -> Option<Record> {
     let quotes: Vec<usize> = (0..bytes.len()).filter(|i| bytes[*i] == 34).collect();
@@ -75,7 +90,7 @@ fn guess(bytes: &[u8]) -> Option<Record> {
     let [b' ', date @ .., b':', m0, m1, b':', s0, s1, b';', b'\r', b'\n'] = moment else { return None };
     let [date @ .., b' ', h0, h1] = date else { return None };
     Some(Record {
-        number: digits(number, 1).or(digits(number, 2))?,
+        number: (1..=DIGITS_MOST).find_map(|width| digits(number, width))?,
         outcome,
         text: bytes[open + 1..close].to_vec(),
         date: digits(date, 8)?,
@@ -85,8 +100,13 @@ fn guess(bytes: &[u8]) -> Option<Record> {
 
 /// "The reader takes one whole record and nothing beyond. Any other bytes get 7." With the place where its text begins.
 pub fn read_record(bytes: &[u8]) -> Result<(Record, usize), Refusal> {
+    read_record_within(COMMANDS, bytes)
+}
+
+/// The same where the limit of n is another, as it is for a host that was built before P6.
+pub fn read_record_within(limit: usize, bytes: &[u8]) -> Result<(Record, usize), Refusal> {
     if let Some(r) = guess(bytes) {
-        if write_record(&r, usize::MAX).as_deref() == Ok(bytes) {
+        if write_record_within(limit, &r, usize::MAX).as_deref() == Ok(bytes) {
             let open = bytes.iter().position(|b| *b == 34).unwrap();
             return Ok((r, open + 1));
         }

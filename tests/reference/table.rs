@@ -2,12 +2,29 @@
 //! documents, and each call puts into them the numbers that it changes.
 
 use super::calendar::{is_real_date, is_real_time};
-use super::record::{is_outcome, record_bytes, Outcome, Record};
+use super::record::{is_outcome, record_bytes, Outcome, Record, COMMANDS, OLD_COMMANDS};
 use super::{plain, Refusal};
 
 pub const SESSIONS: usize = 32;
-pub const COMMANDS: usize = 64;
-pub const TABLE_BYTES: usize = 16 * (1 + SESSIONS * (2 + COMMANDS));
+pub const TABLE_BYTES: usize = table_bytes(COMMANDS);
+
+/// The size before P6: "Tables in the old size are refused as unsound and must be made anew."
+pub const OLD_TABLE_BYTES: usize = table_bytes(OLD_COMMANDS);
+
+/// The size of a table for that many commands a session.
+pub const fn table_bytes(commands: usize) -> usize {
+    16 * rows_before(commands, SESSIONS)
+}
+
+/// The longest reply: "ERROR 50, plus the digits of n", for each command; a table keeps no texts.
+pub const REPLY_BYTES: usize = {
+    let (mut bytes, mut n) = (0, 1);
+    while n <= COMMANDS {
+        bytes += 50 + 1 + n.ilog10() as usize;
+        n += 1;
+    }
+    bytes
+};
 
 #[derive(Clone, Copy, Debug, PartialEq, Eq)]
 pub struct Answer {
@@ -47,10 +64,19 @@ fn is_answer(a: &Answer) -> bool {
 
 // ---- the bytes
 
-/// Row 0 is the table's own; then each session has two rows for its head and one for the answer to each command. The first row of the head,
-/// or the row of an answer.
+/// Row 0 is the table's own; then each session has two rows for its head and one for the answer to each command.
+const fn rows_before(commands: usize, session: usize) -> usize {
+    1 + session * (2 + commands)
+}
+
+/// The first row of the head, or the row of an answer.
 pub fn row_of(session: usize, command: usize) -> usize {
-    1 + session * (2 + COMMANDS) + if command == 0 { 0 } else { 1 + command }
+    row_within(COMMANDS, session, command)
+}
+
+/// The same in a table for another number of commands a session.
+pub fn row_within(commands: usize, session: usize, command: usize) -> usize {
+    rows_before(commands, session) + if command == 0 { 0 } else { 1 + command }
 }
 
 /// The columns of a head; the ticket begins its second row.
@@ -85,23 +111,28 @@ fn answer_of(bytes: &[u8], row: usize) -> Answer {
 }
 
 /// None where the slot is open; an error where a session stands there that no sound table has.
-fn session_of(bytes: &[u8], s: usize) -> Result<Option<Session>, ()> {
-    let head = row_of(s, 0);
+fn session_of(commands: usize, bytes: &[u8], s: usize) -> Result<Option<Session>, ()> {
+    let head = row_within(commands, s, 0);
     let [taken, program, count, answered, ticket] = [TAKEN, PROGRAM, COUNT, ANSWERED, TICKET].map(|column| number(bytes, head, column));
     if taken == 0 {
         return Ok(None);
     }
-    if !(1..=8).contains(&program) || !(1..=64).contains(&count) || ticket == 0 || answered > count {
+    if !(1..=8).contains(&program) || !(1..=commands).contains(&(count as usize)) || ticket == 0 || answered > count {
         return Err(());
     }
-    let answers: Vec<Answer> = (1..=answered as usize).map(|c| answer_of(bytes, row_of(s, c))).collect();
+    let answers: Vec<Answer> = (1..=answered as usize).map(|c| answer_of(bytes, row_within(commands, s, c))).collect();
     if answers.iter().all(is_answer) { Ok(Some(Session { program, count, ticket, answers })) } else { Err(()) }
 }
 
 impl Table {
     /// "A table is sound when": none where the bytes are not.
     pub fn of_bytes(bytes: &[u8]) -> Option<Table> {
-        if bytes.len() != TABLE_BYTES {
+        Table::of_bytes_within(COMMANDS, bytes)
+    }
+
+    /// The same for another number of commands a session.
+    pub fn of_bytes_within(commands: usize, bytes: &[u8]) -> Option<Table> {
+        if bytes.len() != table_bytes(commands) {
             return None;
         }
         let [max, last, mark, hand] = [0, 1, 2, 3].map(|column| number(bytes, 0, column));
@@ -109,7 +140,7 @@ impl Table {
             return None;
         }
         let max = max as usize;
-        let sessions: Result<Vec<_>, ()> = (0..SESSIONS).map(|s| session_of(bytes, s)).collect();
+        let sessions: Result<Vec<_>, ()> = (0..SESSIONS).map(|s| session_of(commands, bytes, s)).collect();
         let sessions = sessions.ok()?;
         if sessions[max..].iter().any(Option::is_some) {
             return None;
@@ -156,7 +187,7 @@ fn sound(bytes: &[u8]) -> Result<Table, Refusal> {
 
 pub fn place(bytes: &mut [u8], program: u32, count: u32) -> Result<(u32, u32), Refusal> {
     let table = sound(bytes)?;
-    if !(1..=8).contains(&program) || !(1..=64).contains(&count) {
+    if !(1..=8).contains(&program) || !(1..=COMMANDS).contains(&(count as usize)) {
         return plain(11);
     }
     let Some(s) = (0..table.max).find(|s| table.sessions[*s].is_none()) else { return plain(9) };

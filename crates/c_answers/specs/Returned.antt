@@ -74,4 +74,4 @@ GivesStatement a r numbers numbers' mantissa mantissa' =
 
 -- The version of the calls that the header declares: one more with each change of a name, a type, a number or a size there.
 abbrev pub version : ℕ
-version = 6
+version = 7

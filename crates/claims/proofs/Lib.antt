@@ -6,6 +6,7 @@ pub mod Demand1Table
 pub mod Demand1TableResults
 pub mod Starts
 pub mod StoredDates
+pub mod MoreCommands
 pub mod Demand1Statements
 pub mod Fits
 pub mod Demand3

@@ -1,15 +1,15 @@
 -- What is claimed: the user's three demands, and document 02's requests as they land, each a record whose fields are its claims, under the sentences
 -- that they say. `proofs/Demands` gives one of each. The words are those that the contracts of the public calls cite (docs/CALLS.md); that a call ends,
 -- for all bytes and numbers, and meets its contract, is what the prover shows of every function.
-use Prim.Native.Nat.{ℕ, _+_, _-_, _*_, _^_, _≤_, _<_}
+use Prim.Native.Nat.{ℕ, zero, suc, _+_, _-_, _*_, _^_, _≤_, _<_}
 use mathlib.Core.Path.{_≡_}
 use mathlib.Core.Bool.{Bool, true, false, cond}
 use mathlib.Core.List.{List, [], _∷_, _++_, List·Memᴰ}
 use mathlib.Core.Logic.{_↔_, _⊎_}
 use lib.IntN.{natAbs}
 use lib.ListN.{length, getD, drop}
-use Rattle.counts.specs.Limits.{fileBytes, commands, sessions}
-use Rattle.counts.specs.Refusals.{fileTooLong, tooFewPlaces, noToken, unexpected, notReal, tooManyStatements, notARecord, outOfRange, unsound, openString, brokenString, misshapen, endOfFile}
+use Rattle.counts.specs.Limits.{fileBytes, commands, olderCommands, sessions}
+use Rattle.counts.specs.Refusals.{fileTooLong, tooFewPlaces, noToken, unexpected, notReal, tooManyStatements, notARecord, tooLittleRoom, outOfRange, unsound, openString, brokenString, misshapen, endOfFile}
 use Rattle.counts.specs.Result.{Result, refused, done, counted}
 use Rattle.field.specs.Bytes.{ascii}
 use Rattle.field.specs.Part.{part, put}
@@ -22,6 +22,7 @@ use Rattle.record.specs.Record.{Content, content, permitted, recordBytes, fixed
 use Rattle.record_read.specs.Reading as reading
 use Rattle.record_read.specs.Reading.{recordRead, contentOf, withText, textOf}
 use Rattle.record.specs.Writing as writing
+use Rattle.record.specs.declared.Outcome.the-variants.{Error}
 use Rattle.record_read.specs.declared.Record.{Record}
 use Rattle.grammar.specs.declared.StartClause.{StartClause}
 use Rattle.grammar.specs.declared.StartClause.the-variants.{Required, Optional}
@@ -368,6 +369,42 @@ pub record StoredDates : Type 0 where
   pub unsound-is-refused : (b : List ℕ) → soundBytes b ≡ false
       → ((p n : ℕ) → placing b p n ≡ refused unsound 0) × (takingUp b ≡ refused unsound 0)
       × ((t c : ℕ) (a : Answer) → answering b t c a ≡ refused unsound 0) × ((p t room : ℕ) → collecting b p t room ≡ refused unsound 0)
+
+-- ---- More commands in a request (document 02, P6): "Both limits go from 64 to 200. .. The demands hold with 200.": what is said above of `statements` and
+-- `commands` is said of 200.
+
+-- the records of commands 1 to n, in order
+unfoldable pub recordsTo : ℕ → (ℕ → Content) → List ℕ
+recordsTo zero c = []
+recordsTo (suc n) c = recordsTo n c ++ recordBytes (c (suc n))
+
+-- the old size: the table's own row, and for each session two rows and one for each command, of 16 bytes
+abbrev pub olderTable : ℕ
+olderTable = 16 * (1 + (2 + olderCommands) * sessions)
+
+pub record MoreCommands : Type 0 where
+  -- "n in a record may now have three digits, so a full reply of ERROR records with 255-byte texts is 61,492 bytes.", whatever they say; without texts
+  -- 10,492, and this is room enough for every collection
+  pub full-reply : (class code date time : ℕ → ℕ) (text : ℕ → List ℕ) → ((n : ℕ) → length (text n) ≡ 255)
+      → length (recordsTo commands λ n. content n (Error (class n) (code n)) (text n) (date n) (time n)) ≡ 61492
+  pub full-reply-without-texts : (class code date time : ℕ → ℕ)
+      → length (recordsTo commands λ n. content n (Error (class n) (code n)) [] (date n) (time n)) ≡ 10492
+  pub room-enough : (b : List ℕ) (p t room q : ℕ) → 10492 ≤ room → collecting b p t room ≡ refused tooLittleRoom q → ⊥
+  -- "Older host readers refuse records above 64 with 7 and never misread one": a reader whose limit of n is older, 64 or any other. Bytes that the reader takes
+  -- it reads alike where n is within its limit, and gives 7 where it is above; bytes that the reader refuses it refuses.
+  pub never-misreads : (older : ℕ) → older ≤ commands → (s : List ℕ) (r : Record) → recordRead older s ≡ done r → recordRead commands s ≡ done r
+  pub older-reader-agrees : (older : ℕ) → older ≤ commands → (s : List ℕ) (r : Record) → recordRead commands s ≡ done r → r .number .0 ≤ older
+      → recordRead older s ≡ done r
+  pub older-reader-refuses : (older : ℕ) → older ≤ commands → (s : List ℕ)
+      → ((r : Record) → recordRead commands s ≡ done r → older < r .number .0 → recordRead older s ≡ refused notARecord 0)
+      × ((n p : ℕ) → recordRead commands s ≡ refused n p → recordRead older s ≡ refused n p)
+  -- "Tables in the old size are refused as unsound and must be made anew.": any bytes of that size, by every call
+  pub sizes : (tableBytes ≡ 103440) × (olderTable ≡ 33808)
+  pub old-size-is-unsound : (b : List ℕ) → length b ≡ olderTable → soundBytes b ≡ false
+  pub old-size-is-refused : (b : List ℕ) → length b ≡ olderTable
+      → ((max : ℕ) → 1 ≤ max → max ≤ sessions → making b max ≡ refused unsound 0) × ((p n : ℕ) → placing b p n ≡ refused unsound 0)
+      × (takingUp b ≡ refused unsound 0) × ((t c : ℕ) (a : Answer) → answering b t c a ≡ refused unsound 0)
+      × ((p t room : ℕ) → collecting b p t room ≡ refused unsound 0)
 
 -- ---- Demand 3: "From a fresh table, after any sequence of calls by up to eight programs and one machine:" of any way to answer a table's calls, with
 -- `fresh` for what is made and `step` for what a call answers and leaves. Lists of calls and events have the newest first.

@@ -1,5 +1,5 @@
 -- The examples that document 01 marks with a star, with P2's numbers, both ends, sign and zero of its numbers, and, of document 02, some report files of P1,
--- faults of P2, start decisions of P3, dates of P4 and missing start clauses of P7, in one table: the words, and the test that they are, on the definitions
+-- faults of P2, start decisions of P3, dates of P4, numbers of records of P6 and missing start clauses of P7, in one table: the words, and the test that they are, on the definitions
 -- that the contracts cite. `proofs/Examples` proves that every row holds, by one computation.
 use Prim.Native.Nat.{ℕ}
 use Prim.Native.String.{String}
@@ -7,10 +7,10 @@ use mathlib.Core.Bool.{Bool, true, false, cond, not, _&&_}
 use mathlib.Core.List.{List, [], _∷_, _++_}
 use lib.Dec.{eqb}
 use lib.IntN.{ℤ, pos, negsuc, negℤ}
-use lib.ListN.{length}
+use lib.ListN.{length, replicate}
 use Rattle.field.specs.Bytes.{ascii, same}
 use Rattle.calendar.specs.Calendar.{realDate, realTime}
-use Rattle.counts.specs.Limits.{statements}
+use Rattle.counts.specs.Limits.{statements, commands, olderCommands}
 use Rattle.counts.specs.Refusals.{noToken, unexpected, notReal, notARecord, tooLittleRoom, outOfRange, openString, brokenString, misshapen, endOfFile, notComparable}
 use Rattle.counts.specs.Result.{Result, refused, done}
 use Rattle.grammar.specs.declared.StartClause.the-variants.{Required, Optional}
@@ -30,6 +30,7 @@ use Rattle.number.specs.declared.Number.{Number}
 use Rattle.record.specs.Record.{content, recordBytes}
 use Rattle.record.specs.declared.Outcome.{Outcome}
 use Rattle.record.specs.declared.Outcome.the-variants.{Processed, Error}
+use Rattle.record_read.specs.Reading.{recordRead}
 use Rattle.report.specs.Report.{Told}
 use Rattle.report.specs.Reading.{readReport}
 use Rattle.report_write.specs.Writing.{written}
@@ -70,7 +71,7 @@ sameWhole (negsuc m) (negsuc n) = eqb m n
 abbrev pub sameNumber : Number → Number → Bool
 sameNumber x y = sameWhole (x .mantissa) (y .mantissa) && eqb (x .scale) (y .scale)
 
--- a job file, read with a table of 64 places: with P7's new setting, and with the earlier one
+-- a job file, read with a table that has room for every file: with P7's new setting, and with the earlier one
 abbrev pub job : String → Result (List ℕ)
 job text = readJob Required (ascii text) statements
 
@@ -84,6 +85,10 @@ reads text mantissa scale = isRefused unexpected 0 (job text) && sameNumber (num
 -- the length of a record with number 1 and no text
 abbrev pub recordLength : Outcome → ℕ
 recordLength outcome = length (recordBytes (content 1 outcome [] 20240430 235959))
+
+-- a record with these digits for its number
+abbrev pub numbered : String → List ℕ
+numbered n = ascii "COMMAND " ++ ascii n ++ ascii " PROCESSED \"\" 20240430 23:59:59;\r\n"
 
 -- a report with commas, read with room for eight cells
 abbrev pub report : String → Result Told
@@ -185,6 +190,14 @@ examples =
     (isRefused notReal 0 (decision (given [] 20261117 80000 20260229 (start.text [])) immediate))
     ∷ row "PROCESSED, n 1, empty text: 43 bytes" (eqb (recordLength Processed) 43)
     ∷ row "ERROR: 51" (eqb (recordLength (Error 6 16)) 51)
+    ∷ row "ERROR, n 200, a text of 255 bytes: 308" (eqb (length (recordBytes (content 200 (Error 99 99999999) (replicate 255 116) 20240430 235959))) 308)
+    ∷ row "n 65: taken" (isTaken (recordRead commands (numbered "65")))
+    ∷ row "n 65 before a reader up to 64: 7" (isRefused notARecord 0 (recordRead olderCommands (numbered "65")))
+    ∷ row "n 64 before that reader: taken" (isTaken (recordRead olderCommands (numbered "64")))
+    ∷ row "n 200: taken" (isTaken (recordRead commands (numbered "200")))
+    ∷ row "n 201: 7" (isRefused notARecord 0 (recordRead commands (numbered "201")))
+    ∷ row "n 1000: 7" (isRefused notARecord 0 (recordRead commands (numbered "1000")))
+    ∷ row "n 0200: 7" (isRefused notARecord 0 (recordRead commands (numbered "0200")))
     ∷ row "date 20240431: refused" (not (realDate 20240431))
     ∷ row "20240430: taken" (realDate 20240430)
     ∷ row "19970229: refused" (not (realDate 19970229))

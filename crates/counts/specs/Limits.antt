@@ -17,13 +17,17 @@ textBytes = 255
 abbrev pub numberDigits : ℕ
 numberDigits = 16
 
--- "A file is 1 to 64 statements"
+-- "A file is 1 to 64 statements"; P6: "200 statements in a job and 200 commands in a session"
 abbrev pub statements : ℕ
-statements = 64
+statements = 200
 
--- "command count 1 to 64", and so "n is 1 to 64" in a record
+-- "command count 1 to 64", and so "n is 1 to 64" in a record; P6: "Both limits go from 64 to 200."
 abbrev pub commands : ℕ
-commands = 64
+commands = 200
+
+-- P6: "from 64", which older host readers and older tables have
+abbrev pub olderCommands : ℕ
+olderCommands = 64
 
 -- "MaxSessions is 1 to 32"
 abbrev pub sessions : ℕ

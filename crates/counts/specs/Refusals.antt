@@ -22,7 +22,7 @@ unexpected = 4
 abbrev pub notReal : ℕ
 notReal = 5
 
--- "any token after 64 statements"
+-- "any token after 64 statements"; P6: "6, 7 and 11 move with the limit"
 abbrev pub tooManyStatements : ℕ
 tooManyStatements = 6
 

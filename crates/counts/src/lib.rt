@@ -34,9 +34,9 @@ pub const TEXT_BYTES: usize = 255;
 
 pub const NUMBER_DIGITS: usize = 16;
 
-pub const STATEMENTS: u32 = 64;
+pub const STATEMENTS: u32 = 200;
 
-pub const COMMANDS: u32 = 64;
+pub const COMMANDS: u32 = 200;
 
 pub const SESSIONS: u32 = 32;
 
@@ -67,7 +67,7 @@ pub const UNEXPECTED: u32 = 4;
 // right shape of time or date where one may stand, but not a real one; or a time or date number not real
 pub const NOT_REAL: u32 = 5;
 
-// any token after 64 statements
+// any token after the most statements of a file
 pub const TOO_MANY_STATEMENTS: u32 = 6;
 
 // record field out of range, or bytes that are not a record; a report: its first line that does not fit; a start decision: a number or string

@@ -35,7 +35,7 @@ either : (b : Bool) (p : ℕ) → (n : ℕ) × cond b (refusedAt unexpected p) (
 either true p = (unexpected, refl)
 either false p = (notReal, refl)
 
--- the reader's points and offsets: nothing yet, or a living point and 1 to 64 statements begun
+-- the reader's points and offsets: nothing yet, or a living point and no more statements begun than a file may have
 pub data Fine : Point → List ℕ → Type 0 where
   fresh : Fine done []
   running : {q : Point} {o : ℕ} {os : List ℕ} → isPoint q dead ≡ false → length (o ∷ os) ≤ statements → Fine q (o ∷ os)

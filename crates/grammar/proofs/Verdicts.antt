@@ -36,7 +36,7 @@ module _ (clause : StartClause) where
   all-there a [] e l = absurd (omega arith)
   all-there a (o ∷ os) e l = let f : Legal clause a (o ∷ os) = read-legal clause a o os e in (o ∷ os, f, omega (arith, f .few))
 
-  -- after 64 statements the reader refuses with 6
+  -- after as many statements as a file may have the reader refuses with 6
   full-refused : (a : List Placed) (t : Placed) → Full clause a → (q : Point) (os : List ℕ) → moves clause start a ≡ on q os
       → move clause (on q os) t ≡ refusedAt tooManyStatements (t .place)
   full-refused a t f q os e =

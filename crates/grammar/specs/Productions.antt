@@ -101,7 +101,7 @@ pub data File (clause : StartClause) : List Placed → List ℕ → List Stateme
   file : {t : Placed} {a b : List Placed} {x : Statement} {os : List ℕ} {xs : List Statement} → Ended Job (t ∷ a) x → Others clause b os xs
       → File clause (t ∷ (a ++ b)) (t .place ∷ os) (x ∷ xs)
 
--- "A file is 1 to 64 statements": the tokens ts are a legal file whose statements begin at os.
+-- "A file is 1 to 64 statements", with P6 1 to 200: the tokens ts are a legal file whose statements begin at os.
 pub record Legal (clause : StartClause) (ts : List Placed) (os : List ℕ) : Type 0 where
   pub reads : List Statement
   pub file : File clause ts os reads

@@ -53,7 +53,7 @@ abbrev pub opening : StartClause → List ℕ → Point
 opening clause [] = first
 opening clause (o ∷ os) = between clause
 
--- a token after the ; of a statement, or at the start: 6 after 64 statements, else it begins one more
+-- a token after the ; of a statement, or at the start: 6 after as many statements as a file may have, else it begins one more
 abbrev pub begin : StartClause → List ℕ → Placed → State
 begin clause os t = cond (ltb (length os) statements) (stepWith (opening clause os) (os ++ (t .place ∷ [])) t) (refusedAt tooManyStatements (t .place))
 

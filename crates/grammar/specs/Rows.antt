@@ -22,7 +22,7 @@ MayStand clause a t = Begins clause (a ++ (t ∷ []))
 abbrev pub real : Placed → Placed
 real t = record { class = shape (t .class); place = t .place; end = t .end; said = t .said }
 
--- 64 whole statements
+-- as many whole statements as a file may have
 abbrev pub Full : StartClause → List Placed → Type 0
 Full clause a = (os : List ℕ) × Legal clause a os × length os ≡ statements
 
@@ -48,7 +48,7 @@ Sixteen clause ts z p = Begins clause ts × z ≡ noTokenAt BrokenString p
 abbrev pub Seventeen : StartClause → List Placed → Last → ℕ → Type 0
 Seventeen clause ts z p = Begins clause ts × z ≡ noTokenAt Misshapen p
 
--- 6: any token after 64 statements
+-- 6: "any token after 64 statements"; P6: "6, 7 and 11 move with the limit"
 abbrev pub Six : StartClause → List Placed → ℕ → Type 0
 Six clause ts p = (a : List Placed) × (t : Placed) × Stands ts p a t × Full clause a
 

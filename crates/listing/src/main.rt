@@ -1,5 +1,6 @@
 // The listing program of document 01: reads a job file from standard input and prints a line for each statement, its ordinal, keyword and
 // offset. On refusal it prints REFUSED, the number and the place. A missing start clause reads as START IMMEDIATE: it asks for P7's earlier reading.
+use counts::STATEMENTS;
 use grammar::StartClause;
 use io::print_decimal;
 use io::write_all;
@@ -77,7 +78,7 @@ fn print_statements(file: &[u8], offsets: &[u32], count: usize) {
 }
 
 fn list(file: &[u8]) {
-    let mut offsets = [0u32; 64];
+    let mut offsets = [0u32; STATEMENTS as usize];
     match job::read_job(file, StartClause::Optional, &mut offsets) {
         JobAnswer::Taken(count) => print_statements(file, &offsets, count),
         JobAnswer::Refused(refusal) => print_refusal(refusal.number, refusal.place),

@@ -10,7 +10,7 @@ pub mod tables;
 ghost use mathlib.Core.Path.{_≡_};
 ghost use Rattle.c_answers.specs.Returned.{version};
 
-pub const VERSION: u32 = 6;
+pub const VERSION: u32 = 7;
 
 // The version that a header is held against.
 #[no_mangle]

@@ -35,7 +35,8 @@ abbrev pub isOutcome : Outcome → Bool
 isOutcome Processed = true
 isOutcome (Error class code) = leb class classMost && leb code codeMost
 
--- number, class, code and text in range. "n is 1 to 64": the limit is a parameter, so that readers with another limit can be spoken of.
+-- number, class, code and text in range. "n is 1 to 64", with P6 1 to 200: the limit is a
+-- parameter, so that readers with another limit can be spoken of.
 unfoldable pub inRange : ℕ → ℕ → Outcome → List ℕ → Bool
 inRange limit n outcome text = leb 1 n && leb n limit && isOutcome outcome && isText text
 

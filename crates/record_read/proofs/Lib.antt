@@ -4,4 +4,5 @@ pub mod Rules
 pub mod Standing
 pub mod Shown
 pub mod RoundTrip
+pub mod Older
 pub mod Says

@@ -1,5 +1,5 @@
 -- Demand 2's last sentence for records, and what else document 01 says of them: all of it about the words that the contracts of `write_record`,
--- `read_record`, `record_at` and `record_text` cite, for every limit of n. The contracts have the limit 64.
+-- `read_record`, `record_at` and `record_text` cite, for every limit of n. The contracts have the limit `commands`.
 use Prim.Native.Nat.{ℕ, _+_, _≤_, _<_}
 use mathlib.Core.Path.{_≡_, refl, sym, ap, ap₂, _∙_, subst}
 use mathlib.Core.Bool.{Bool, true, false, cond}
@@ -144,7 +144,7 @@ written-permitted limit c out k h =
 -- ---- the two trips
 
 -- a whole record begins the bytes, and ends where they end
-whole : (limit : ℕ) (s : List ℕ) (r : Record) → recordRead limit s ≡ done r → Was limit s 0 r (length s)
+pub whole : (limit : ℕ) (s : List ℕ) (r : Record) → recordRead limit s ≡ done r → Was limit s 0 r (length s)
 unfolding recordRead
 whole limit s r h = go (recordAt limit s 0) refl h
   where
@@ -156,16 +156,19 @@ whole limit s r h = go (recordAt limit s 0) refl h
         record-back limit s 0 r (length s) (p ∙ ap₂ Ends is (eqb-true e (length s) t))
     go NoRecord p f = absurd (refused-not-done f)
 
-whole-bytes : (limit : ℕ) (s : List ℕ) (r : Record) → Was limit s 0 r (length s) → s ≡ recordBytes (contentOf s r)
+pub whole-bytes : (limit : ℕ) (s : List ℕ) (r : Record) → Was limit s 0 r (length s) → s ≡ recordBytes (contentOf s r)
 whole-bytes limit s r was = was .bytes ∙ simp (drop-length, append-nil)
+
+pub reads-as : (limit : ℕ) → limit < 100000000 → (c : Content) → permitted limit c ≡ true → recordRead limit (recordBytes c) ≡ done (readAs 0 c)
+unfolding recordRead
+reads-as limit most c ok =
+    let s = recordBytes c in
+    rw (record-done s 0 c [] (sym (append-nil s)) limit most ok, eq-eqb (0 + length s) (length s) (omega arith))
 
 reads : (limit : ℕ) → limit < 100000000 → (c : Content) → permitted limit c ≡ true
     → withText (recordBytes c) (recordRead limit (recordBytes c)) ≡ done c
-unfolding recordRead
 reads limit most c ok =
-    let s = recordBytes c in
-    let h : drop 0 s ≡ s ++ [] = sym (append-nil s) in
-    rw (record-done s 0 c [] h limit most ok, eq-eqb (0 + length s) (length s) (omega arith)) (ap done (content-same s 0 c [] h))
+    ap (withText (recordBytes c)) (reads-as limit most c ok) ∙ ap done (content-same (recordBytes c) 0 c [] (sym (append-nil (recordBytes c))))
 
 same-content : {c d : Content} → done c ≡ done d → c ≡ d
 same-content h = cc

@@ -39,7 +39,7 @@ abbrev pub within : ℕ → ℕ → ℕ → Bool
 within low n high = leb low n && leb n high
 
 -- "Place (program 1 to 8, command count 1 to 64): takes the lowest open number; ticket is the last plus one. Order 13, 11, 9, 12.
--- A number is taken from its placing until its collection."
+-- A number is taken from its placing until its collection." P6: "200 commands in a session"
 unfoldable pub isOpen : Session → Bool
 isOpen x = not (x .taken)
 

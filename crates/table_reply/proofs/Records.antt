@@ -97,5 +97,6 @@ module _ (b : List ℕ) (s : ℕ) where
   pub wrote-all : {i n at : ℕ} {d e : List ℕ} → i ≡ n → Wrote d 0 (replyOf b s i) e at → Wrote d 0 (replyOf b s n) e at
   wrote-all q w = as-bytes w (ap (replyOf b s) q)
 
-pub small : (o : Outcome) (i r : ℕ) → i < commands → r ≡ fixedLength o + plainWidth (i + 1) + 0 → r ≤ 52
-small o i r l e = omega (arith, fixed-le o (fixedLength o) refl, plain-le (i + 1) 2 (omega arith) (omega arith))
+-- eight digits are enough for any limit that there may be
+pub small : (o : Outcome) (i r : ℕ) → i < commands → r ≡ fixedLength o + plainWidth (i + 1) + 0 → r ≤ 58
+small o i r l e = omega (arith, fixed-le o (fixedLength o) refl, plain-le (i + 1) 8 (omega arith) (omega arith))

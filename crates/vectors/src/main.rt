@@ -5,6 +5,7 @@
 // EUROMAP 63's worked examples with their scan damage mended.
 use counts::CommandNumber;
 use counts::Refusal;
+use counts::STATEMENTS;
 use counts::SessionNumber;
 use counts::Ticket;
 use grammar::StartClause;
@@ -67,9 +68,12 @@ fn print_refusal(number: u32, place: usize) {
     print_number(place as u64);
 }
 
+// Places for the offsets of every file that is taken.
+const PLACES: usize = STATEMENTS as usize;
+
 // What a file that is refused with required start clauses reads as with optional ones.
 fn run_optional(file: &[u8], required: Refusal) {
-    let mut offsets = [0u32; 64];
+    let mut offsets = [0u32; PLACES];
     match job::read_job(file, StartClause::Optional, &mut offsets) {
         JobAnswer::Taken(count) => {
             write_all(STDOUT_FILENO, b" optional");
@@ -85,7 +89,7 @@ fn run_optional(file: &[u8], required: Refusal) {
 }
 
 fn run_job(file: &[u8]) {
-    let mut offsets = [0u32; 64];
+    let mut offsets = [0u32; PLACES];
     match job::read_job(file, StartClause::Required, &mut offsets) {
         JobAnswer::Taken(count) => print_offsets(&offsets, count),
         JobAnswer::Refused(refusal) => {

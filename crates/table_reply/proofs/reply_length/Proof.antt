@@ -9,7 +9,7 @@ use Rattle.table_reply.proofs.reply_length.Statement.{statement}
 use Rattle.table_reply.proofs.reply_length.Tie as tie
 
 abbrev Inv-loop : tie.InvT-loop
-Inv-loop b s n i₀ total₀ i total = (i ≤ n) × (total ≤ 52 * i) × (total ≡ length (replyOf b (s .0) i))
+Inv-loop b s n i₀ total₀ i total = (i ≤ n) × (total ≤ 58 * i) × (total ≡ length (replyOf b (s .0) i))
 
 abbrev μ-loop : tie.MeasureT-loop
 μ-loop b s n i₀ total₀ i total = n - i
