@@ -209,11 +209,11 @@ pub fn read_job(file: &[u8], clause: StartClause, offsets: &mut [u32]) -> JobAns
     let t = next_item(file, 0, 0);
     match first_read(file, clause, t) {
         StatementRead::Is(_, next) => {
-            let answer = rest_of(file, clause, 1, next, offsets);
-            if let JobAnswer::Taken(_) = answer {
+            let later = rest_of(file, clause, 1, next, offsets);
+            if let JobAnswer::Taken(_) = later {
                 offsets[0] = t.place as u32;
             }
-            answer
+            later
         }
         StatementRead::Refused(refusal) => JobAnswer::Refused(refusal),
     }
