@@ -107,6 +107,7 @@ old-size-is-unsound b old = rw (ne-eqb (length b) tableBytes (another-size b old
 pub more-commands : MoreCommands
 more-commands =
     record {
+      both-limits = (refl, refl);
       full-reply = λ class code date time text long. length-to class code date time text 255 long commands ∙ full-lengths .0;
       full-reply-without-texts = λ class code date time. length-to class code date time (λ n. []) 0 (λ n. refl) commands ∙ full-lengths .1;
       room-enough = room-enough;

@@ -8,7 +8,7 @@ use mathlib.Core.List.{List, [], _∷_, _++_, List·Memᴰ}
 use mathlib.Core.Logic.{_↔_, _⊎_}
 use lib.IntN.{natAbs}
 use lib.ListN.{length, getD, drop}
-use Rattle.counts.specs.Limits.{fileBytes, commands, olderCommands, sessions}
+use Rattle.counts.specs.Limits.{fileBytes, statements, commands, olderCommands, sessions}
 use Rattle.counts.specs.Refusals.{fileTooLong, tooFewPlaces, noToken, unexpected, notReal, tooManyStatements, notARecord, tooLittleRoom, outOfRange, unsound, openString, brokenString, misshapen, endOfFile}
 use Rattle.counts.specs.Result.{Result, refused, done, counted}
 use Rattle.field.specs.Bytes.{ascii}
@@ -370,8 +370,7 @@ pub record StoredDates : Type 0 where
       → ((p n : ℕ) → placing b p n ≡ refused unsound 0) × (takingUp b ≡ refused unsound 0)
       × ((t c : ℕ) (a : Answer) → answering b t c a ≡ refused unsound 0) × ((p t room : ℕ) → collecting b p t room ≡ refused unsound 0)
 
--- ---- More commands in a request (document 02, P6): "Both limits go from 64 to 200. .. The demands hold with 200.": what is said above of `statements` and
--- `commands` is said of 200.
+-- ---- More commands in a request (document 02, P6): "The demands hold with 200.": what is said above of `statements` and `commands`.
 
 -- the records of commands 1 to n, in order
 unfoldable pub recordsTo : ℕ → (ℕ → Content) → List ℕ
@@ -383,6 +382,8 @@ abbrev pub olderTable : ℕ
 olderTable = 16 * (1 + (2 + olderCommands) * sessions)
 
 pub record MoreCommands : Type 0 where
+  -- "Both limits go from 64 to 200."
+  pub both-limits : (statements ≡ 200) × (commands ≡ 200)
   -- "n in a record may now have three digits, so a full reply of ERROR records with 255-byte texts is 61,492 bytes.", whatever they say; without texts
   -- 10,492, and this is room enough for every collection
   pub full-reply : (class code date time : ℕ → ℕ) (text : ℕ → List ℕ) → ((n : ℕ) → length (text n) ≡ 255)
