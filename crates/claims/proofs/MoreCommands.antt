@@ -1,5 +1,5 @@
 -- The lengths of full replies, what older readers take, and tables in the old size.
-use Prim.Native.Nat.{ℕ, zero, suc, _+_, _-_, _≤_, _<_}
+use Prim.Native.Nat.{ℕ, zero, suc, _+_, _-_, _≤_}
 use mathlib.Core.Path.{_≡_, refl, sym, ap, _∙_}
 use mathlib.Core.Bool.{true, false}
 use mathlib.Core.List.{List, [], _∷_}
@@ -8,21 +8,19 @@ use borrow.Author.Tests.{ne-eqb, le-leb}
 use lib.ListN.{length, length-append}
 use Rattle.laws.proofs.Choose.{and-both}
 use Rattle.counts.specs.Limits.{commands, sessions}
-use Rattle.counts.specs.Refusals.{notARecord, tooLittleRoom, unsound}
+use Rattle.counts.specs.Refusals.{tooLittleRoom, unsound}
 use Rattle.counts.specs.Result.{Result, refused, done}
 use Rattle.counts.proofs.Results.{refused-not-done}
 use Rattle.decimal.specs.Digits.{widthFrom, plainWidth}
-use Rattle.record.specs.Record.{Content, content, recordBytes, fixedLength}
-use Rattle.record.specs.declared.Outcome.{Outcome}
-use Rattle.record.specs.declared.Outcome.the-variants.{Processed, Error}
+use Rattle.record.specs.Record.{content, recordBytes}
+use Rattle.record.specs.declared.Outcome.the-variants.{Error}
 use Rattle.record.proofs.Lengths.{length-record, fixed-le}
 use Rattle.record_read.proofs.Older.{never-misreads, older-agrees, older-refuses, older-refuses-too}
 use Rattle.sessions.specs.Find.{at}
-use Rattle.sessions.specs.Records.{recordOf}
-use Rattle.sessions.specs.Table.{Session, noSession, numbered, records, reply}
+use Rattle.sessions.specs.Table.{Session, numbered, records, reply}
 use Rattle.sessions.specs.declared.Answer.{Answer}
 use Rattle.sessions.proofs.Parts.{SlotSound, open-slot, session}
-use Rattle.session_table.specs.Calls.{making, collecting}
+use Rattle.session_table.specs.Calls.{collecting}
 use Rattle.table_layout.specs.Layout.{tableBytes}
 use Rattle.table_search.proofs.Sounds.{sound-table}
 use Rattle.table_sound.specs.Bytes.{abs, soundBytes}

@@ -1,6 +1,6 @@
 -- What stands at the start of a file, and what stands after its first statement.
 use Prim.Native.Nat.{ℕ, _≤_, _<_}
-use mathlib.Core.Path.{_≡_, refl, sym, _∙_, ap}
+use mathlib.Core.Path.{_≡_, refl}
 use mathlib.Core.Bool.{Bool, true, false, cond}
 use mathlib.Core.List.{List}
 use native.Mathlib.Omega.{arith}
@@ -15,7 +15,6 @@ use Rattle.item.specs.Items.{endNo, refusalNo}
 use Rattle.item.specs.declared.Item.{Item}
 use Rattle.statement.specs.Statement.{statementOf}
 use Rattle.job.specs.Loop.{refuse, stepRead, stepInto, stepOf}
-use Rattle.job.specs.declared.Step.{Step}
 use Rattle.job.specs.declared.Step.the-variants.{Over}
 
 -- a token is refused with 4

@@ -14,7 +14,6 @@ use Rattle.moment.specs.Moment.{realMoment}
 use Rattle.record.specs.Record.{Content, isOutcome, isText, inRange, permitted}
 use Rattle.record_read.specs.Reading.{recordRead, contentOf}
 use Rattle.record_read.specs.declared.Record.{Record}
-use Rattle.record_read.proofs.Standing.{readAs}
 use Rattle.record_read.proofs.RoundTrip.{whole, whole-bytes, reads-as, only-seven}
 
 -- a permitted record but for its number

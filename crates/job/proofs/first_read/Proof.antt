@@ -1,5 +1,5 @@
 -- `job::first_read` meets its contract.
-use mathlib.Core.Path.{_≡_, _∙_, ap}
+use mathlib.Core.Path.{_∙_, ap}
 use denote.Ref.{now}
 use borrow.Author.Needs.{needs}
 use Rattle.job.specs.Loop.{stepRead}
