@@ -227,8 +227,11 @@ fn run_reply(reply: &[u8], n: usize) {
     }
 }
 
+// More than a record without text takes.
+const REPLY_ROOM: usize = 60;
+
 fn collect(table: &mut [u8]) {
-    let mut reply = [0u8; 64];
+    let mut reply = [0u8; REPLY_ROOM];
     write_all(STDOUT_FILENO, b" collect");
     match session_table::collect(table, 1, Ticket(1), &mut reply) {
         Collected::Written(n) => run_reply(&reply, n),

@@ -35,11 +35,14 @@ pub +rest-of-spec : {M : Type 1} → statement M
     (rest-of-at t)
     rest-of.Post
     (λ c κs. search needs)
+    -- k and the block make no more statements than a file may have
     (λ c. omega (arith, c .before .block-of .ensures .2))
     (λ c. search needs)
     (λ c. search needs)
+    -- the block's places fit into the table
     (λ c κs. (search needs, c .before .before .before .before .before .before .block-of .ensures .1))
     (λ c. search needs)
+    -- the file ends, and the table has room
     (λ c.
     let a = c .before .before .before .before .before .before .before .before .before .before .before .before .args in
     let b = c .before .before .before .before .before .before .before .before .before .block-of in
@@ -49,6 +52,7 @@ pub +rest-of-spec : {M : Type 1} → statement M
     (λ c κs. search needs)
     (λ c. search needs)
     (λ c. search needs)
+    -- more is asked after more statements
     (λ c κs.
     let a = c .before .before .before .before .before .before .before .before .args in
     let b = c .before .before .before .before .before .block-of in
@@ -57,6 +61,7 @@ pub +rest-of-spec : {M : Type 1} → statement M
     (omega (arith, b .ensures .2), (c .before .before .before .before .before .before .before .before .pre .1 .0, omega arith, b .ensures .2)))
     (λ c. search needs)
     (λ c. search needs)
+    -- the table has room for what was taken
     (λ c κs.
     let a = c .before .before .before .before .before .before .before .before .before .before .before .before .before .before .before .args in
     let b = c .before .before .before .before .before .before .before .before .before .before .before .before .block-of in
@@ -68,16 +73,19 @@ pub +rest-of-spec : {M : Type 1} → statement M
     let fits : a .k + b .result .count ≤ length (later .last .1 .1 .1 .1 .0) = omega arith in
     (fits, b .ensures .1))
     (λ c. search needs)
+    -- the file ends, and the table has too little room
     (λ c.
     let a = c .before .before .before .before .before .before .before .before .args in
     let b = c .before .before .before .before .before .block-of in
     let (answer, table) = over-crowded (a .clause) (now (a .file)) (a .k) (a .at) (b .result) (b .ensures) (now (a .offsets)) (c .before .before .enum-told .given .1) (c .before .if1 .left) in
     (rw (c .plain .ensures) answer, table))
+    -- the file is refused after the block
     (λ c.
     let a = c .before .before .before .before .before .before .before .args in
     let b = c .before .before .before .before .block-of in
     broken (a .clause) (now (a .file)) (a .k) (a .at) (b .result) (b .ensures) (now (a .offsets)) _ (c .before .then .given .1))
     (λ c. search needs)
+    -- what stands after the block is taken
     (λ c.
     let a = c .before .before .before .before .before .before .before .before .before .before .before .before .before .before .before .before .before .before .args in
     let b = c .before .before .before .before .before .before .before .before .before .before .before .before .before .before .before .block-of in
@@ -86,6 +94,7 @@ pub +rest-of-spec : {M : Type 1} → statement M
     (later .ensures .0) (later .ensures .1) _ (ap paperJob (c .before .before .before .before .before .enum-told2 .given .1)) _
     (c .before .before .fill2 .ensures))
     (λ c. search needs)
+    -- it is refused
     (λ c.
     let a = c .before .before .before .before .before .before .before .before .before .before .before .before .before .args in
     let b = c .before .before .before .before .before .before .before .before .before .before .block-of in
