@@ -370,7 +370,7 @@ pub record StoredDates : Type 0 where
       → ((p n : ℕ) → placing b p n ≡ refused unsound 0) × (takingUp b ≡ refused unsound 0)
       × ((t c : ℕ) (a : Answer) → answering b t c a ≡ refused unsound 0) × ((p t room : ℕ) → collecting b p t room ≡ refused unsound 0)
 
--- ---- More commands in a request (document 02, P6): "The demands hold with 200.": what is said above of `statements` and `commands`.
+-- ---- More commands in a request (document 02, P6): "The demands hold with 200.": as they are said above, of `statements` and `commands`.
 
 -- the records of commands 1 to n, in order
 unfoldable pub recordsTo : ℕ → (ℕ → Content) → List ℕ
