@@ -2,6 +2,7 @@
 // P7 gives it. No function.
 
 // Whether an UPLOAD or DOWNLOAD must have a start clause, as the caller asks. Required: a missing one is refused. Optional: it reads as START IMMEDIATE.
+#![tactic(auto)]
 #[derive(Drop)]
 pub enum StartClause {
     Required,

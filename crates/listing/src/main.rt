@@ -1,5 +1,6 @@
 // The listing program of document 01: reads a job file from standard input and prints a line for each statement, its ordinal, keyword and
 // offset. On refusal it prints REFUSED, the number and the place. A missing start clause reads as START IMMEDIATE: it asks for P7's earlier reading.
+#![tactic(auto)]
 use counts::STATEMENTS;
 use grammar::StartClause;
 use io::{print_decimal, write_all};

@@ -1,4 +1,5 @@
 // What a C program calls. Each call hands on to the one that it is named for and says what that says, with answers as numbers.
+#![tactic(auto)]
 pub mod jobs;
 pub mod moments;
 pub mod names;

@@ -1,4 +1,5 @@
 // Response records read: at a place of longer bytes, and as the whole of bytes.
+#![tactic(auto)]
 ghost use Rattle.std.specs.Prelude.{◌≡◌, ◌+◌, ◌≤◌, length};
 ghost use Rattle.counts.specs.Limits.{commands};
 ghost use Rattle.counts.specs.Refusals.{not_aRecord, refusal};

@@ -1,5 +1,6 @@
 // Last month's fault, replayed on the session table, a line for each step: A's reply lies uncollected while B places a request. B is given another
 // number, and so another file on the share, A collects its own reply, and the old ticket is refused from then on.
+#![tactic(auto)]
 use counts::{CommandNumber, SessionNumber, Ticket};
 use io::{print_decimal, write_all};
 use libc::STDOUT_FILENO;

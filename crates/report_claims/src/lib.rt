@@ -1,1 +1,2 @@
 // No function: reading and writing reports as theorems.
+#![tactic(auto)]

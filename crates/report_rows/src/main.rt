@@ -1,5 +1,6 @@
 // Reads a report from standard input, with the delimiter as its argument, and prints a line for each row: its ordinal, 0 for the names, and its
 // names or values as they stand. On refusal it prints REFUSED, the number and the place.
+#![tactic(auto)]
 use io::{print_decimal, write_all};
 use libc::{STDIN_FILENO, STDOUT_FILENO};
 use report::ReportRead;

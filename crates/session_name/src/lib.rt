@@ -1,4 +1,5 @@
 // The names of session files, SESSnnnn.REQ and SESSnnnn.RSP: read and written.
+#![tactic(auto)]
 ghost use Rattle.std.specs.Prelude.{◌≡◌, ◌+◌, ◌≤◌, ◌<◌, length};
 ghost use Rattle.counts.specs.Refusals.{out_of_range, refusal};
 ghost use Rattle.field.specs.Part.{Wrote};

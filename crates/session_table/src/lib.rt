@@ -1,6 +1,7 @@
 // The session table: make, place, take up, answer, collect. Making and answering are each a thin function over one that gives the number of the
 // refusal, in document 01's order and 0 for none, and one that does what the call does where there is none. The others are one way through, so
 // that they search the sessions once.
+#![tactic(auto)]
 ghost use Rattle.std.specs.Prelude.{◌≡◌, ◌&&◌, true, ◌+◌, ◌<◌};
 ghost use Rattle.counts.specs.Limits.{commands, programs};
 ghost use Rattle.counts.specs.Result.{done};

@@ -1,6 +1,7 @@
 // The rows of one session, in two rows for its head and one for each answer. Every question of a head is asked here, of the head by value:
 // whether its number is open, whether the session waits or is closed, whom it is ready for, its lowest unanswered command. Nobody above looks
 // at an offset, and nobody tests a field of a head.
+#![tactic(auto)]
 ghost use Rattle.std.specs.Prelude.{◌≡◌, ◌+◌, ◌<◌, ◌≤◌, length};
 ghost use Rattle.counts.specs.Limits.{commands, sessions};
 ghost use Rattle.sessions.specs.Table.{is_open, is_waiting, is_closed, is_ready, lowest, names};

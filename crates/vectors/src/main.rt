@@ -3,6 +3,7 @@
 // and a line says what it read as. A job file's start clauses are required; where it reads as something else with optional ones, the line goes on with that. The files are the examples of
 // documents 01 and 02 that are not proved, the traps, the places where two readers could differ, and the job files, records and reports of
 // EUROMAP 63's worked examples with their scan damage mended.
+#![tactic(auto)]
 use counts::{CommandNumber, Refusal, STATEMENTS, SessionNumber, Ticket};
 use grammar::StartClause;
 use io::{print_decimal, write_all};
