@@ -51,7 +51,7 @@ pub const OPERAND_STRING: u64 = 2;
 pub const STATEMENT_NUMBERS: usize = 20;
 
 // A string has the place of its quote, a name a place and a length.
-#[derive(Drop)]
+#[derive(Clone, Copy)]
 pub struct SourceFields {
     pub kind: u64,
     pub quote: u64,
@@ -59,7 +59,7 @@ pub struct SourceFields {
     pub length: u64,
 }
 
-#[derive(Drop)]
+#[derive(Clone, Copy)]
 pub struct OperandFields {
     pub kind: u64,
     pub quote: u64,
@@ -67,7 +67,7 @@ pub struct OperandFields {
     pub mantissa: i64,
 }
 
-#[derive(Drop)]
+#[derive(Clone, Copy)]
 pub struct StartFields {
     pub kind: u64,
     pub time: u64,
@@ -82,7 +82,7 @@ pub struct StartFields {
 }
 
 // All fields of a statement.
-#[derive(Drop)]
+#[derive(Clone, Copy)]
 pub struct StatementNumbers {
     pub numbers: [u64; 20],
     pub mantissa: i64,

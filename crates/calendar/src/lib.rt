@@ -38,7 +38,7 @@ fn is_day(year: u32, month: u32, day: u32) -> bool
 }
 
 // A number as its last two digits, the two before them and the rest: of a time its second, minute and hour.
-#[derive(Drop)]
+#[derive(Clone, Copy)]
 pub struct Fields {
     pub high: u32,
     pub middle: u32,
@@ -46,7 +46,7 @@ pub struct Fields {
 }
 
 // A number as so many times a power of ten, and a rest.
-#[derive(Drop)]
+#[derive(Clone, Copy)]
 struct Split {
     high: u32,
     low: u32,

@@ -4,17 +4,17 @@ ghost use Rattle.std.specs.Prelude.{◌≡◌};
 ghost use Rattle.counts.specs.Refusals.{refusal};
 
 // "Session numbers, command numbers and tickets are three counts kept apart."
-#[derive(Drop)]
+#[derive(Clone, Copy)]
 pub struct SessionNumber(pub u32);
 
-#[derive(Drop)]
+#[derive(Clone, Copy)]
 pub struct CommandNumber(pub u32);
 
-#[derive(Drop)]
+#[derive(Clone, Copy)]
 pub struct Ticket(pub u32);
 
 // A refusal: its number, and the place for 3 to 6 and 15 to 18 in a job file and for 7 in a report, else 0.
-#[derive(Drop)]
+#[derive(Clone, Copy)]
 pub struct Refusal {
     pub number: u32,
     pub place: usize,

@@ -5,7 +5,7 @@ ghost use Rattle.field.specs.Part.{part, Wrote};
 ghost use Rattle.decimal.specs.Digits.{digits, plain_width};
 ghost use Rattle.decimal.specs.Read.{digits_read};
 
-#[derive(Drop)]
+#[derive(Clone, Copy)]
 pub enum DigitsRead {
     Value(u64),
     NotDigits,
@@ -27,7 +27,7 @@ fn ten_to(k: usize) -> u64
 }
 
 // How often a power goes into a number, and what is left of the number.
-#[derive(Drop)]
+#[derive(Clone, Copy)]
 struct Taken {
     times: u8,
     rest: u64,

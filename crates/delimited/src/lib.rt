@@ -8,7 +8,7 @@ ghost use Rattle.delimited.specs.Separators.{separator_at};
 use field::{byte_at, has_at, put_bytes};
 
 // What follows a field: another field, or the end of the line, each with the place after what separates; or neither.
-#[derive(Drop)]
+#[derive(Clone, Copy)]
 pub enum Separator {
     Field(usize),
     Line(usize),

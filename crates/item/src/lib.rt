@@ -80,7 +80,7 @@ pub const MISSHAPEN_CLASS: u8 = 26;
 
 // A token by its class: its first byte and the place after it, counted from the file's start; a date's or a time's number; what a number reads
 // as; and which operator it is.
-#[derive(Drop)]
+#[derive(Clone, Copy)]
 pub struct Item {
     pub class: u8,
     pub place: usize,

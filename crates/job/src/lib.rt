@@ -21,28 +21,28 @@ use statement::{Statement, StatementRead, statement_of};
 use token::is_text;
 
 // A statement, its own offset and the place after its ;
-#[derive(Drop)]
+#[derive(Clone, Copy)]
 pub struct StatementAt {
     pub statement: Statement,
     pub offset: usize,
     pub next: usize,
 }
 
-#[derive(Drop)]
+#[derive(Clone, Copy)]
 pub enum StatementAnswer {
     Read(StatementAt),
     Refused(Refusal),
 }
 
 // How many statements the file has, or why it is not taken.
-#[derive(Drop)]
+#[derive(Clone, Copy)]
 pub enum JobAnswer {
     Taken(usize),
     Refused(Refusal),
 }
 
 // What a token between statements leads to: the file is over, it is refused, or a statement ends before a place.
-#[derive(Drop)]
+#[derive(Clone, Copy)]
 pub enum Step {
     Over,
     RefusedAt(Refusal),
@@ -54,7 +54,7 @@ pub enum Step {
 pub const BLOCK: usize = 16;
 
 // The next statements of a file, a block at most: their offsets, and what stands after them. On says that the block is full.
-#[derive(Drop)]
+#[derive(Clone, Copy)]
 pub struct StatementsFound {
     pub places: [u32; BLOCK],
     pub count: usize,

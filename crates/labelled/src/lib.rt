@@ -5,7 +5,7 @@ ghost use Rattle.labelled.specs.Labelled.{field_after, WroteAfter};
 
 use decimal::DigitsRead;
 
-#[derive(Drop)]
+#[derive(Clone, Copy)]
 pub enum FieldRead {
     Field(u32),
     NoField,

@@ -7,7 +7,7 @@ ghost use Rattle.moment.specs.Reading.{time_after, moment_after};
 
 use labelled::FieldRead;
 
-#[derive(Drop)]
+#[derive(Clone, Copy)]
 pub enum MomentRead {
     Moment(u32, u32),
     NoMoment,

@@ -6,7 +6,7 @@ ghost use Rattle.decimal.specs.Digits.{value};
 ghost use Rattle.number.specs.Number.{digits_of, scale_of, signed_of, number_of};
 
 // mantissa / 10^scale
-#[derive(Drop)]
+#[derive(Clone, Copy)]
 pub struct Number {
     pub mantissa: i64,
     pub scale: u32,

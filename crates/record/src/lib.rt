@@ -13,13 +13,13 @@ use counts::{
 };
 
 // What a command came to: PROCESSED, or ERROR with class and code.
-#[derive(Drop)]
+#[derive(Clone, Copy)]
 pub enum Outcome {
     Processed,
     Error(u32, u32),
 }
 
-#[derive(Drop)]
+#[derive(Clone, Copy)]
 pub enum Written {
     Bytes(usize),
     Refused(Refusal),

@@ -11,7 +11,7 @@ use moment::MomentRead;
 use record::Outcome;
 
 // A record as it was read: its text is the length bytes of the input from start on.
-#[derive(Drop)]
+#[derive(Clone, Copy)]
 pub struct Record {
     pub number: CommandNumber,
     pub outcome: Outcome,
@@ -22,13 +22,13 @@ pub struct Record {
 }
 
 // The record that the bytes from a place on begin with, and the place after it.
-#[derive(Drop)]
+#[derive(Clone, Copy)]
 pub enum FirstRecord {
     Ends(Record, usize),
     NoRecord,
 }
 
-#[derive(Drop)]
+#[derive(Clone, Copy)]
 pub enum RecordRead {
     Taken(Record),
     Refused(Refusal),
@@ -36,13 +36,13 @@ pub enum RecordRead {
 
 // What the readers of a record's fields answer.
 
-#[derive(Drop)]
+#[derive(Clone, Copy)]
 enum CommandRead {
     Command(CommandNumber),
     NoCommand,
 }
 
-#[derive(Drop)]
+#[derive(Clone, Copy)]
 enum OutcomeRead {
     Opens(Outcome, usize),
     NoOutcome,

@@ -16,28 +16,28 @@ use scan::{DIGIT, TEXT, is_letter, run_end};
 use word::{WordRead, is_name, word_at};
 
 // The place after a field, or none stands there.
-#[derive(Drop)]
+#[derive(Clone, Copy)]
 pub enum FieldRead {
     End(usize),
     NoField,
 }
 
 // How many fields a line has and the place after it, or no line stands there.
-#[derive(Drop)]
+#[derive(Clone, Copy)]
 pub enum LineRead {
     Fields(usize, usize),
     NoLine,
 }
 
 // The columns and the lines of values of a report, or the start of the first line that does not fit.
-#[derive(Drop)]
+#[derive(Clone, Copy)]
 pub enum Judged {
     Whole(usize, usize),
     BreaksAt(usize),
 }
 
 // The columns and the lines of values of a report, or why it is not taken.
-#[derive(Drop)]
+#[derive(Clone, Copy)]
 pub enum ReportRead {
     Taken(usize, usize),
     Refused(Refusal),

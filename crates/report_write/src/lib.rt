@@ -12,7 +12,7 @@ use field::put_bytes;
 use report::{FieldRead, field_at};
 
 // How many bytes were written, or why none.
-#[derive(Drop)]
+#[derive(Clone, Copy)]
 pub enum ReportWritten {
     Bytes(usize),
     Refused(Refusal),

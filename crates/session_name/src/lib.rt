@@ -9,19 +9,19 @@ use counts::{OUT_OF_RANGE, Refusal, SESSIONS, SessionNumber, TOO_LITTLE_ROOM};
 use decimal::DigitsRead;
 
 // A request that a program puts on the share, or the response that the machine puts there.
-#[derive(Drop)]
+#[derive(Clone, Copy)]
 pub enum Kind {
     Request,
     Response,
 }
 
-#[derive(Drop)]
+#[derive(Clone, Copy)]
 pub enum NameRead {
     Named(SessionNumber, Kind),
     Refused(Refusal),
 }
 
-#[derive(Drop)]
+#[derive(Clone, Copy)]
 pub enum NameWritten {
     Bytes(usize),
     Refused(Refusal),

@@ -25,31 +25,31 @@ use table_reply::{reply_length, write_reply};
 use table_search::{SessionFound, lowest_open, next_waiting, ready_session};
 use table_sound::is_sound;
 
-#[derive(Drop)]
+#[derive(Clone, Copy)]
 pub enum Made {
     Fresh,
     Refused(Refusal),
 }
 
-#[derive(Drop)]
+#[derive(Clone, Copy)]
 pub enum SessionPlaced {
     At(SessionNumber, Ticket),
     Refused(Refusal),
 }
 
-#[derive(Drop)]
+#[derive(Clone, Copy)]
 pub enum TakenUp {
     Given(SessionNumber, Ticket, CommandNumber),
     Refused(Refusal),
 }
 
-#[derive(Drop)]
+#[derive(Clone, Copy)]
 pub enum Answered {
     Accepted,
     Refused(Refusal),
 }
 
-#[derive(Drop)]
+#[derive(Clone, Copy)]
 pub enum Collected {
     Written(usize),
     Refused(Refusal),

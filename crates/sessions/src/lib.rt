@@ -4,7 +4,7 @@
 use record::Outcome;
 
 // What a command's answer carries.
-#[derive(Drop)]
+#[derive(Clone, Copy)]
 pub struct Answer {
     pub outcome: Outcome,
     pub date: u32,

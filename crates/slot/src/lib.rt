@@ -15,7 +15,7 @@ use sessions::Answer;
 use table_layout::{Table, number_at, put_number};
 
 // The head of a session. `taken` is 0 where the number is open, and then the others say nothing.
-#[derive(Drop)]
+#[derive(Clone, Copy)]
 pub struct Head {
     pub taken: u32,
     pub program: u32,
@@ -208,7 +208,7 @@ fn put_entry(b: &mut [u8], s: SessionNumber, c: CommandNumber, a: Answer)
 }
 
 // A slot taken out to store an answer in: the head, and the answer that is stored.
-#[derive(Drop)]
+#[derive(Clone, Copy)]
 pub struct Slot {
     pub head: Head,
     pub entry: Answer,

@@ -15,13 +15,13 @@ use statement::{Day, Operand, Start};
 use token::Operator;
 
 // The parameter's present value: a number, or the bytes that are given with it.
-#[derive(Drop)]
+#[derive(Clone, Copy)]
 pub enum Present {
     Number(Number),
     Text,
 }
 
-#[derive(Drop)]
+#[derive(Clone, Copy)]
 pub enum Decision {
     Due,
     NotDue,
@@ -35,7 +35,7 @@ const MANTISSA_LIMIT: u64 = 10000000000000000;
 const ZERO_LEVEL: u64 = 100000000000000000;
 
 // A whole number as its sign and its magnitude.
-#[derive(Drop)]
+#[derive(Clone, Copy)]
 struct SignAndSize {
     minus: bool,
     size: u64,

@@ -16,14 +16,14 @@ use number::Number;
 use token::Operator;
 
 // A part of the file: the place of its first byte, and its length. A name is held so.
-#[derive(Drop)]
+#[derive(Clone, Copy)]
 pub struct Part {
     pub place: usize,
     pub length: usize,
 }
 
 // What is moved: the active set, a file spec by the place of its opening quote, or a name.
-#[derive(Drop)]
+#[derive(Clone, Copy)]
 pub enum Source {
     Active,
     File(usize),
@@ -31,20 +31,20 @@ pub enum Source {
 }
 
 // The optional date of a time, yyyymmdd.
-#[derive(Drop)]
+#[derive(Clone, Copy)]
 pub enum Day {
     Any,
     On(u32),
 }
 
 // A number, or a string by the place of its opening quote.
-#[derive(Drop)]
+#[derive(Clone, Copy)]
 pub enum Operand {
     Number(Number),
     Text(usize),
 }
 
-#[derive(Drop)]
+#[derive(Clone, Copy)]
 pub struct Condition {
     pub name: Part,
     pub operator: Operator,
@@ -52,21 +52,21 @@ pub struct Condition {
 }
 
 // A start clause is one of three; a missing one, where it may be missing, reads as the first. A time is hhmmss.
-#[derive(Drop)]
+#[derive(Clone, Copy)]
 pub enum Start {
     Immediate,
     At(u32, Day),
     When(Condition),
 }
 
-#[derive(Drop)]
+#[derive(Clone, Copy)]
 pub enum Aborted {
     Report,
     Event,
 }
 
 // A statement. A file spec is held as the place of its opening quote.
-#[derive(Drop)]
+#[derive(Clone, Copy)]
 pub enum Statement {
     Job {
         name: Part,
@@ -92,14 +92,14 @@ pub enum Statement {
 }
 
 // A statement and the place after its ;, or why there is none.
-#[derive(Drop)]
+#[derive(Clone, Copy)]
 pub enum StatementRead {
     Is(Statement, usize),
     Refused(Refusal),
 }
 
 // An UPLOAD or DOWNLOAD up to its start clause.
-#[derive(Drop)]
+#[derive(Clone, Copy)]
 pub struct Transfer {
     pub download: bool,
     pub file: usize,

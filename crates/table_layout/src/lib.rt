@@ -8,7 +8,7 @@ use counts::{SessionNumber, Ticket};
 
 // The table's own row: MaxSessions, the last ticket, the number last taken up, and what is in hand (0: nothing, else one more than the
 // number of the session whose lowest unanswered command it is).
-#[derive(Drop)]
+#[derive(Clone, Copy)]
 pub struct Table {
     pub max: u32,
     pub last: Ticket,

@@ -11,7 +11,7 @@ use slot::get_head;
 use table_layout::{Table, get_table};
 
 // What a search comes to.
-#[derive(Drop)]
+#[derive(Clone, Copy)]
 pub enum SessionFound {
     At(SessionNumber),
     Nothing,

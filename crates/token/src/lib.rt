@@ -10,7 +10,7 @@ use field::byte_at;
 use scan::{DIGIT, NUMERIC, TEXT, blank_end, digit_at, is_digit, is_letter, run_end};
 use word::{Word, WordRead, word_at};
 
-#[derive(Drop)]
+#[derive(Clone, Copy)]
 pub enum Operator {
     Equal,
     NotEqual,
@@ -22,7 +22,7 @@ pub enum Operator {
 
 // Why bytes are no token: a byte that begins none; a string that meets the end of the file first; a string that meets a forbidden byte or
 // its 256th content byte first; a word that is too long or a numeric run of neither shape.
-#[derive(Drop)]
+#[derive(Clone, Copy)]
 pub enum Why {
     Stray,
     OpenString,
@@ -31,7 +31,7 @@ pub enum Why {
 }
 
 // A token from start up to end; the end of the file; or a place where no token stands.
-#[derive(Drop)]
+#[derive(Clone, Copy)]
 pub enum Token {
     End(usize),
     NoToken {

@@ -20,7 +20,7 @@ use statement::{Operand, Start, Statement};
 use table_layout::Table;
 
 // What an example is: by the end of its name, and a report's delimiter by its beginning.
-#[derive(Drop)]
+#[derive(Clone, Copy)]
 enum Kind {
     Job,
     Record,
@@ -273,7 +273,7 @@ fn run_stored(file: &[u8]) {
 
 // What a file says of the moment: NOW, date and time, TAKEN, and the date on which the command was taken up. A number that is not there is one that is
 // not real.
-#[derive(Drop)]
+#[derive(Clone, Copy)]
 struct Moment {
     date: u32,
     time: u32,
@@ -298,7 +298,7 @@ fn moment_in(file: &[u8]) -> Moment {
 }
 
 // The start clause of a statement, and the place after its ;.
-#[derive(Drop)]
+#[derive(Clone, Copy)]
 struct Clause {
     start: Start,
     next: usize,

@@ -10,7 +10,7 @@ use scan::{DIGIT, WORD, run_end};
 
 // Which word it is: a reserved one, a name, or TIME>=. Other is STOP, TIME or NEVER, which no production takes. They stand in the order of
 // the classes, so that a word's class costs nothing.
-#[derive(Drop)]
+#[derive(Clone, Copy)]
 pub enum Word {
     Job,
     Response,
@@ -29,14 +29,14 @@ pub enum Word {
 }
 
 // The place after a bracket group, or no group.
-#[derive(Drop)]
+#[derive(Clone, Copy)]
 pub enum GroupRead {
     After(usize),
     NoGroup,
 }
 
 // A word and the place after it, or a run that is no word.
-#[derive(Drop)]
+#[derive(Clone, Copy)]
 pub enum WordRead {
     Is(Word, usize),
     NoWord,
