@@ -1,6 +1,7 @@
 // Whether a date yyyymmdd and a time hhmmss, given as whole numbers, are real ones, and the fields of a time. Nothing is divided: the small
 // gateway's processor cannot.
 #![tactic(auto)]
+
 ghost use Rattle.std.specs.Prelude.{◌≡◌, ◌&&◌, ◌+◌, ◌*◌, ◌/◌, ◌%◌, ◌≤◌, ◌<◌, leb};
 ghost use Rattle.calendar.specs.Calendar.{february_length, month_length, is_day, real_date, real_time};
 

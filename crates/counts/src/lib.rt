@@ -1,5 +1,6 @@
 // The three counts, the limits and the refusal numbers of documents 01 and 02. Each limit and each number is said once here, and once in specs/.
 #![tactic(auto)]
+
 ghost use Rattle.std.specs.Prelude.{◌≡◌};
 ghost use Rattle.counts.specs.Refusals.{refusal};
 

@@ -1,5 +1,6 @@
 // Whole numbers as decimal digits, written and read: one function each for every width up to 16.
 #![tactic(auto)]
+
 ghost use Rattle.std.specs.Prelude.{◌≡◌, ◌+◌, ◌*◌, ◌/◌, ◌%◌, ◌^◌, ◌≤◌, ◌<◌, length};
 ghost use Rattle.field.specs.Part.{part, Wrote};
 ghost use Rattle.decimal.specs.Digits.{digits, plain_width};

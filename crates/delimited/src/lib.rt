@@ -1,5 +1,6 @@
 // Lines of fields: the four delimiters, and what follows a field. Report files and alarm logs share it.
 #![tactic(auto)]
+
 ghost use Rattle.std.specs.Prelude.{◌≡◌, ◌+◌, ◌≤◌, length};
 ghost use Rattle.field.specs.Part.{Wrote};
 ghost use Rattle.delimited.specs.Lines.{is_delimiter, separator};

@@ -1,5 +1,6 @@
 // Bytes at a place of lent memory: read, compared, written; and numbers at a place, low byte first.
 #![tactic(auto)]
+
 ghost use Rattle.std.specs.Prelude.{◌≡◌, ◌+◌, ◌≤◌, ◌<◌, length, get_or};
 ghost use Rattle.field.specs.Part.{Wrote};
 ghost use Rattle.field.specs.Bytes.{has_at};

@@ -1,5 +1,6 @@
 // A fixed word and a number in decimal digits after it: read, and written.
 #![tactic(auto)]
+
 ghost use Rattle.std.specs.Prelude.{◌≡◌, ◌+◌, ◌^◌, ◌≤◌, ◌<◌, length};
 ghost use Rattle.labelled.specs.Labelled.{field_after, WroteAfter};
 

@@ -1,5 +1,6 @@
 // A date yyyymmdd and a time hhmmss as two numbers: whether they are real, which is later, and as they stand in a record, read and written.
 #![tactic(auto)]
+
 ghost use Rattle.std.specs.Prelude.{◌≡◌, true, ◌++◌, ◌+◌, ◌*◌, ◌≤◌, ◌<◌, length};
 ghost use Rattle.field.specs.Part.{Wrote};
 ghost use Rattle.moment.specs.Moment.{real_moment, time_bytes, moment_bytes, at_or_after};

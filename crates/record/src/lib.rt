@@ -1,5 +1,6 @@
 // Response records: which are permitted, and how they are written.
 #![tactic(auto)]
+
 ghost use Rattle.std.specs.Prelude.{◌≡◌, true, ◌+◌, ◌≤◌, length};
 ghost use Rattle.counts.specs.Limits.{commands, text_bytes, class_most, code_most};
 ghost use Rattle.field.specs.Part.{Wrote};

@@ -1,5 +1,6 @@
 // Scans: the kind of a byte, the end of a run of one kind, and the place of the next token.
 #![tactic(auto)]
+
 ghost use Rattle.std.specs.Prelude.{◌≡◌, false, ◌<◌, ◌≤◌, eqb, length, get_or};
 ghost use Rattle.scan.specs.Kinds.{is_separator, is_digit, is_letter, is_word_byte, is_numeric_byte, is_text_byte, is_comment_byte, of_kind};
 ghost use Rattle.scan.specs.Run.{run_end, blank_end, comment_at, Reached};

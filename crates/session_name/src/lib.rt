@@ -1,5 +1,6 @@
 // The names of session files, SESSnnnn.REQ and SESSnnnn.RSP: read and written.
 #![tactic(auto)]
+
 ghost use Rattle.std.specs.Prelude.{◌≡◌, ◌+◌, ◌≤◌, ◌<◌, length};
 ghost use Rattle.counts.specs.Refusals.{out_of_range, refusal};
 ghost use Rattle.field.specs.Part.{Wrote};

@@ -1,6 +1,7 @@
 // The session table in lent bytes: rows of four numbers, each of four bytes, low byte first; how many rows there are, and the table's own. What
 // stands in the rows of a session is the crate `slot`'s.
 #![tactic(auto)]
+
 ghost use Rattle.std.specs.Prelude.{◌≡◌, ◌<◌, ◌≤◌, length, replicate};
 ghost use Rattle.table_layout.specs.Layout.{table_bytes, table_numbers, number, put_number, last_at, mark_at, hand_at, fresh_table, table_of, put_table};
 

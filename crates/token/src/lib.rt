@@ -1,5 +1,6 @@
 // The tokens of a job file: what stands at a place, with the place after it.
 #![tactic(auto)]
+
 ghost use Rattle.std.specs.Prelude.{◌≡◌, ◌≤◌, ◌<◌, ◌*◌, length, get_or};
 ghost use Rattle.counts.specs.Limits.{file_bytes};
 ghost use Rattle.word.specs.Word.{word_read};

@@ -1,5 +1,6 @@
 // The words of a job file: where a word ends, and whether it is reserved.
 #![tactic(auto)]
+
 ghost use Rattle.std.specs.Prelude.{◌≡◌, cond, ◌≤◌, ◌<◌, length};
 ghost use Rattle.field.specs.Bytes.{has_at};
 ghost use Rattle.word.specs.Word.{is_name, which_word, is_index, closed_index, group_read, indexed, word_read};

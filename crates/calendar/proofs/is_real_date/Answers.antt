@@ -1,0 +1,29 @@
+-- `is_real_date` meets its contract: the tests that led to each return decide those of the word.
+use Prim.Native.Nat.{◌/◌}
+use mathlib.Core.Path.{sym, ◌∙◌}
+use native.Mathlib.Omega.{arith}
+use borrow.Author.Rules.{rules}
+use borrow.Author.Tests.{lt-leb}
+use Rattle.calendar.specs.Calendar.{real_date}
+use Rattle.calendar.proofs.Laws.{dated, left_fields, date_is, early_date, no_month}
+use Rattle.calendar.proofs.is_real_date.Goals as goal
+
+pub returns-then-low_within : goal.returns-then-low_within
+returns-then-low_within c = let month = c.middle_within in
+    early_date _ _ _ _ c.if-n-le99999999.true (left_fields _ _ (omega arith))
+    (sym month.ensures ∙ c.if-middle_within.true)
+    (sym c.low_within.ensures ∙ c.if-low_within.true)
+
+pub returns-then-middle_within : goal.returns-then-middle_within
+returns-then-middle_within c = let month = c.middle_within in
+    let date = c.fields_of-date in
+    date_is _ _ _ _ c.if-n-le99999999.true (dated _ _ _ _ _ (omega arith) date.ensures) _
+    (rw date.ensures.1 (sym month.ensures ∙ c.if-middle_within.true))
+    c.is_day.ensures
+
+pub returns-else-middle_within : goal.returns-else-middle_within
+returns-else-middle_within c = no_month _ _ _ _ c.if-n-le99999999.true (left_fields _ _ (omega arith)) (sym c.middle_within.ensures ∙ c.if-middle_within.false)
+
+pub returns-else-n-le99999999 : goal.returns-else-n-le99999999
+unfolding real_date
+returns-else-n-le99999999 c = rw (lt-leb (c.args.n / 10000) 9999 (omega arith))

@@ -1,0 +1,12 @@
+-- `decimal::ten_to` meets its contract. The invariant: what was reached is the power at its place.
+use Prim.Native.Nat.{ℕ, ◌-◌, ◌^◌, ◌≤◌}
+use mathlib.Core.Path.{◌≡◌}
+use native.Mathlib.Omega.{arith}
+use Rattle.decimal.proofs.Laws.{tenfold, ten_le}
+use Rattle.decimal.proofs.ten_to.Given as goal
+
+abbrev pub invariant-loop-i : goal.invariant-loop-i
+invariant-loop-i l = (l.i ≤ l.k) × (l.power ≡ 10 ^ l.i)
+
+abbrev pub decreases-loop-i : goal.decreases-loop-i
+decreases-loop-i l = l.k - l.i

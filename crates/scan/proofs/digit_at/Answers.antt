@@ -1,0 +1,6 @@
+-- `scan::digit_at` meets its contract.
+use borrow.Author.Rules.{rules}
+use Rattle.scan.proofs.digit_at.Goals as goal
+
+pub returns : goal.returns
+returns c = rw (c.is_digit.ensures, c.byte_at.ensures)

@@ -1,0 +1,7 @@
+use Rattle.table_layout.specs.Layout.{put_table, put_row}
+use borrow.Author.Rules.{rules}
+use Rattle.table_layout.proofs.put_table.Goals as goal
+
+pub returns : goal.returns
+unfolding put_table put_row
+returns c = cc

@@ -1,0 +1,13 @@
+-- `token::is_number` meets its contract.
+use Rattle.laws.proofs.Choose.{choose}
+use Rattle.token.specs.Token.{is_number_at}
+use borrow.Author.Rules.{rules}
+use Rattle.token.proofs.is_number.Goals as goal
+
+pub returns-then-m-e : goal.returns-then-m-e
+unfolding is_number_at
+returns-then-m-e c = search choose depth 9
+
+pub returns : goal.returns
+unfolding is_number_at
+returns c = rw (← c.run_end-m.ensures.is) (search choose depth 9)

@@ -1,0 +1,12 @@
+-- `word::closed_index` meets its contract.
+use borrow.Author.Rules.{rules}
+use Rattle.word.specs.Word.{closed_index}
+use Rattle.word.proofs.closed_index.Goals as goal
+
+pub returns-then-is_index-byte_at : goal.returns-then-is_index-byte_at
+unfolding closed_index
+returns-then-is_index-byte_at c = rw (← c.run_end-end.ensures.is, ← c.is_index.ensures, ← c.byte_at.ensures, c.if-is_index-byte_at.true)
+
+pub returns : goal.returns
+unfolding closed_index
+returns c = rw (← c.run_end-end.ensures.is, ← c.is_index.ensures, ← c.byte_at.ensures, c.if-is_index-byte_at.false)
