@@ -74,11 +74,30 @@ module _ (clause : StartClause) where
     pub moved : Moved clause q os t (move clause (on q os) t)
     moved = by_move _ refl
 
+  -- a point after a living one, and a statement that begins
+  fine_goes : {q : Point} {os : List ℕ} → Fine q os → is_point q done ≡ false → (r : Point) → is_point r dead ≡ false → Fine r os
+  fine_goes fresh e r i = absurd (true≢false e)
+  fine_goes (running a f) e r i = running i f
+
+  fine_begins : {q : Point} {os : List ℕ} → Fine q os → length os < statements → (o : ℕ) (r : Point) → is_point r dead ≡ false → Fine r (os ++ (o ∷ []))
+  fine_begins fresh l o r i = running {o = o} {os = []} i (omega arith)
+  fine_begins (running {o = k} {os = os} a f) l o r i = running i (one_more k os o l)
+
+  fine_where : {q : Point} {os : List ℕ} {t : Placed} {s : State} → Fine q os → Moved clause q os t s → (p : Point) (rs : List ℕ) → s ≡ on p rs → Fine p rs
+  fine_where {q} {os} {t} f (goes e i) p rs h =
+      let a : step q t.class ≡ p = cc in
+      let b : os ≡ rs = cc in
+      rw (← a, ← b) (fine_goes f e (step q t.class) i)
+  fine_where {q} {os} {t} f (begins e l i) p rs h =
+      let a : step (opening clause os) t.class ≡ p = cc in
+      let b : os ++ (t.place ∷ []) ≡ rs = cc in
+      rw (← a, ← b) (fine_begins f l t.place (step (opening clause os) t.class) i)
+  fine_where f (full e l) p rs h = absurd (refused≢on h)
+  fine_where f (unreal r ps e) p rs h = absurd (refused≢on h)
+  fine_where f (never e) p rs h = absurd (refused≢on h)
+
   fine_on : {q p : Point} {os rs : List ℕ} {t : Placed} → Fine q os → Moved clause q os t (on p rs) → Fine p rs
-  fine_on fresh (goes e i) = absurd (true≢false e)
-  fine_on {t = t} fresh (begins e l i) = running {o = t.place} {os = []} i (omega arith)
-  fine_on (running a f) (goes e i) = running i f
-  fine_on {t = t} (running {o = o} {os = os} a f) (begins e l i) = running i (one_more o os t.place l)
+  fine_on {p = p} {rs = rs} f m = fine_where f m p rs refl
 
   pub moves_refused : (n p : ℕ) (l : List Placed) → moves clause (refused_at n p) l ≡ refused_at n p
   moves_refused n p [] = refl
