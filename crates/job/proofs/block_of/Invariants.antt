@@ -1,0 +1,20 @@
+-- `job::block_of` meets its contract.
+use Prim.Native.Nat.{◌+◌, ◌-◌, ◌≤◌}
+use mathlib.Core.Path.{◌≡◌, refl}
+use native.Mathlib.Omega.{arith}
+use lib.ListN.{length, take, length-set}
+use borrow.Author.Rules.{rules}
+use Rattle.counts.specs.Limits.{statements}
+use Rattle.job.specs.Loop.{after, rest_of}
+use Rattle.job.proofs.Offsets.{after_none}
+use Rattle.job.proofs.Loops.{all_read, refused_there, room, in_file, again, over≢on, refused≢on}
+use Rattle.job.proofs.block_of.Given as goal
+
+abbrev pub invariant-loop-count : goal.invariant-loop-count
+invariant-loop-count l = (after (take l.count l.places) (rest_of l.clause l.file (l.k + l.count) l.next) ≡ rest_of l.clause l.file l.k l.at)
+    × (l.k + l.count ≤ statements)
+    × (length l.places ≡ 16)
+    × (l.count ≤ 16)
+
+abbrev pub decreases-loop-count : goal.decreases-loop-count
+decreases-loop-count l = 16 - l.count

@@ -1,0 +1,9 @@
+-- `report_write::put_cell` meets its contract.
+use Rattle.field.proofs.Put.{then, as_bytes}
+use Rattle.report_write.proofs.Loops.{handed_on}
+use borrow.Author.Rules.{rules}
+use Rattle.report_write.proofs.put_cell.Goals as goal
+
+pub returns : goal.returns
+returns c = then (as_bytes c.put_bytes-end.ensures (handed_on _ _ _))
+    c.put_separator.ensures

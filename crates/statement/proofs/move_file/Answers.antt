@@ -1,0 +1,12 @@
+-- `statement::move_file` meets its contract.
+use Rattle.grammar.specs.Grammar.Point.{move_file}
+use Rattle.laws.proofs.Choose.{choose}
+use Rattle.statement.proofs.Along.{reads}
+use borrow.Author.Rules.{rules}
+use Rattle.statement.proofs.move_file.Goals as goal
+
+pub returns-then-t-eq-STRING : goal.returns-then-t-eq-STRING
+returns-then-t-eq-STRING c = reads (move_file _) _ _ _ _ c.next_item-t.ensures.is (search choose depth 9)
+
+pub returns : goal.returns
+returns c = reads (move_file _) _ _ _ _ c.next_item-t.ensures.is (search choose depth 9)

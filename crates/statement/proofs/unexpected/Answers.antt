@@ -1,0 +1,6 @@
+-- `statement::unexpected` meets its contract.
+use borrow.Author.Rules.{rules}
+use Rattle.statement.proofs.unexpected.Goals as goal
+
+pub returns : goal.returns
+returns c = rw (← c.refusal_number.ensures) c.refuse.ensures
