@@ -24,14 +24,14 @@ bounds-offsets-0 c = let later = c.rest_of-later in
     let some =
     room_for_first c.args.clause c.args.file.now c.args.offsets.now c.if-file-gt-FILE_BYTES.false _ c.next_item-t.ensures.is _
     c.first_read.ensures _ _ c.in-Is.is _ _ later.ensures _ (ap paper_job c.in-Taken.is) in
-    let kept : length later.new.1.1.1.1.0 ≡ length c.args.offsets.now = later.auto.1.1.1.1.0 in
-    let fits : 0 < length later.new.1.1.1.1.0 = omega arith in
+    let kept : length later.new.offsets ≡ length c.args.offsets.now = later.auto.offsets in
+    let fits : 0 < length later.new.offsets = omega arith in
     fits
 
 pub returns-in-Taken : goal.returns-in-Taken
 returns-in-Taken c = let later = c.rest_of-later in
     taken_first c.args.clause c.args.file.now c.args.offsets.now c.if-file-gt-FILE_BYTES.false _ c.next_item-t.ensures.is _
-    c.first_read.ensures _ _ c.in-Is.is _ _ later.ensures _ (ap paper_job c.in-Taken.is) later.auto.1.1.1.1.0
+    c.first_read.ensures _ _ c.in-Is.is _ _ later.ensures _ (ap paper_job c.in-Taken.is) later.auto.offsets
 
 pub returns-in_default : goal.returns-in_default
 returns-in_default c = refused_later c.args.clause c.args.file.now c.args.offsets.now c.if-file-gt-FILE_BYTES.false _ c.next_item-t.ensures.is _
