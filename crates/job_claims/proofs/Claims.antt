@@ -74,6 +74,7 @@ module _ (clause : StartClause) (s : List ℕ) (room : ℕ) where
     where
       from : (p : ℕ) → Verdict clause s room (refused file_too_long p) → (file_bytes < length s) × p ≡ 0
       from p (too_long l) = (l, refl)
+      from p (broken _ x6) = elim x6 [ ]
 
   -- 2 only for a legal file
   pub two_exactly : (p : ℕ) → read_job clause s room ≡ refused too_few_places p ↔ ((os : List ℕ) × Crowded clause s room os) × p ≡ 0
@@ -81,6 +82,7 @@ module _ (clause : StartClause) (s : List ℕ) (room : ℕ) where
     where
       from : (p : ℕ) → Verdict clause s room (refused too_few_places p) → ((os : List ℕ) × Crowded clause s room os) × p ≡ 0
       from p (no_room {os = os} l (file w) r) = ((os, record { short = l; whole = w; crowded = r }), refl)
+      from p (broken _ x6) = elim x6 [ ]
 
   -- 3 to 6 and 15 to 18 at p exactly when the row holds there, all before it is in order, and no number that goes first holds there
   pub three_exactly : (p : ℕ) → read_job clause s room ≡ refused no_token p ↔ (length s ≤ file_bytes) × Three clause (line s).tokens (line s).last p

@@ -106,10 +106,10 @@ module _ (s : List ℕ) where
   hand (six t) = at_token t (omega arith)
 
   none_within : (p : ℕ) (k : Token) → Ahead s p k → (why : Why) → k ≡ NoToken why p → p < length s
-  none_within p k a why e = go (subst (Ahead s p) e a)
+  none_within p k a why e = go p (subst (Ahead s p) e a)
     where
-      go : Ahead s p (NoToken why p) → p < length s
-      go (no_token_here l) = l
+      go : (q : ℕ) → Ahead s p (NoToken why q) → p < length s
+      go q (no_token_here l) = l
 
   none_inside : (why : Why) (p : ℕ) → token_at s p ≡ NoToken why p → p < length s
   none_inside why p e = none_within p (token_at s p) (token.ahead s p) why e

@@ -136,12 +136,14 @@ module _ (clause : StartClause) (s : List ℕ) (at : ℕ) where
     where
       from : (p : ℕ) → Verdict (refused file_too_long p) → (file_bytes < length s) × p ≡ 0
       from p (too_long l) = (l, refl)
+      from p (not_read _ _ x9) = elim x9 [ ]
 
   pub statement_eleven_exactly : (p : ℕ) → read_statement clause s at ≡ refused out_of_range p ↔ (length s ≤ file_bytes) × (length s < at) × p ≡ 0
   statement_eleven_exactly p = (λ e. from p (asked e), λ h. rw h.2 (told (past h.0 h.1)))
     where
       from : (p : ℕ) → Verdict (refused out_of_range p) → (length s ≤ file_bytes) × (length s < at) × p ≡ 0
       from p (past l m) = (l, m, refl)
+      from p (not_read _ _ x9) = elim x9 [ ]
 
   pub statement_three_exactly : (p : ℕ)
       → read_statement clause s at ≡ refused no_token p ↔ (length s ≤ file_bytes) × (at ≤ length s) × OneThree clause (line_at s at).tokens (line_at s at).last p
