@@ -1,7 +1,7 @@
 -- The laws of find, all, replaced and numbered, and what the tests of the calls say.
 use Prim.Native.Nat.{ℕ, zero, suc, ◌+◌, ◌-◌, ◌≤◌, ◌<◌}
 use mathlib.Core.Path.{◌≡◌, refl, ap, sym}
-use mathlib.Core.Bool.{Bool, true, false, cond, ◌&&◌, ◌||◌, not, false≢true}
+use mathlib.Core.Bool.{Bool, true, false, cond, ◌&&◌, ◌||◌, not}
 use mathlib.Core.Logic.{◌⊎◌, inl, inr, ⊎_elim}
 use mathlib.Core.List.{List, [], ◌∷◌, ◌++◌, append_assoc}
 use native.Mathlib.Nat.{eq-or-lt_of_le, eq-zero-or-pos, add-zero, add-suc, suc-add}
@@ -12,7 +12,6 @@ use lib.ListN.{length}
 use Rattle.laws.proofs.Choose.{halves}
 use Rattle.sessions.specs.Find.{Found, none, at, or_else, find, all, replaced}
 use Rattle.sessions.specs.declared.Answer.{Answer}
-use Rattle.counts.specs.Result.{refused, done}
 use Rattle.sessions.specs.Table.{Session, within, lowest, names, is_closed, is_ready, numbered, records}
 
 -- what a search found

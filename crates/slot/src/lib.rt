@@ -2,6 +2,7 @@
 // whether its number is open, whether the session waits or is closed, whom it is ready for, its lowest unanswered command. Nobody above looks
 // at an offset, and nobody tests a field of a head.
 #![tactic(auto)]
+
 ghost use Rattle.std.specs.Prelude.{◌≡◌, ◌+◌, ◌<◌, ◌≤◌, length};
 ghost use Rattle.counts.specs.Limits.{commands, sessions};
 ghost use Rattle.sessions.specs.Table.{is_open, is_waiting, is_closed, is_ready, lowest, names};

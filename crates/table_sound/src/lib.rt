@@ -1,6 +1,7 @@
 // Whether lent bytes are a sound session table, for any bytes of any length. The table's own row is read once, and each session's head once as
 // the sessions are gone through; the tickets seen so far are kept beside.
 #![tactic(auto)]
+
 ghost use Rattle.std.specs.Prelude.{◌≡◌, ◌&&◌, not, cond, ◌+◌, ◌<◌, ◌≤◌, eqb, ltb, length, get_or};
 ghost use Rattle.counts.specs.Limits.{commands, sessions};
 ghost use Rattle.sessions.specs.Find.{all};
