@@ -1,5 +1,4 @@
 -- `calendar::fields_of` meets its contract: of the ten thousands and of the hundreds at most one is not counted.
-use borrow.Author.Rules.{rules}
 use Rattle.calendar.proofs.Laws.{in_fields}
 use Rattle.calendar.proofs.fields_of.Goals as goal
 

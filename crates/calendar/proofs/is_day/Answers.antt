@@ -1,6 +1,5 @@
 -- `is_day` meets its contract.
 use Rattle.laws.proofs.Choose.{choose}
-use borrow.Author.Rules.{rules}
 use Rattle.calendar.proofs.is_day.Goals as goal
 
 pub returns : goal.returns

@@ -2,7 +2,6 @@
 use Prim.Native.Nat.{◌/◌}
 use mathlib.Core.Path.{sym, ◌∙◌}
 use native.Mathlib.Omega.{arith}
-use borrow.Author.Rules.{rules}
 use borrow.Author.Tests.{lt-leb}
 use Rattle.calendar.specs.Calendar.{real_date}
 use Rattle.calendar.proofs.Laws.{dated, left_fields, date_is, early_date, no_month}

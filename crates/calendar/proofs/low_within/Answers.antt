@@ -1,6 +1,5 @@
 -- `calendar::low_within` meets its contract.
 use native.Mathlib.Omega.{arith}
-use borrow.Author.Rules.{rules}
 use Rattle.calendar.proofs.Places.{low_is}
 use Rattle.calendar.proofs.low_within.Goals as goal
 

@@ -1,6 +1,5 @@
 -- `calendar::middle_within` meets its contract.
 use native.Mathlib.Omega.{arith}
-use borrow.Author.Rules.{rules}
 use Rattle.calendar.proofs.Places.{middle_is}
 use Rattle.calendar.proofs.middle_within.Goals as goal
 

@@ -1,7 +1,6 @@
 -- `month_length` meets its contract: the tests that led to each return pick the case.
 use Rattle.laws.proofs.Choose.{choose}
 use Rattle.calendar.specs.Calendar.{month_length}
-use borrow.Author.Rules.{rules}
 use Rattle.calendar.proofs.month_length.Goals as goal
 
 pub returns-then-month-eq2 : goal.returns-then-month-eq2

@@ -2,11 +2,8 @@ use mathlib.Core.Path.{◌≡◌, sym, ◌∙◌}
 use Prim.Native.Nat.{ℕ, ◌+◌, ◌-◌, ◌*◌, ◌^◌, ◌≤◌, ◌<◌}
 use native.Mathlib.Omega.{arith}
 use lib.ListN.{get_or}
-use borrow.Author.Rules.{rules}
-use Rattle.field.specs.Part.{part}
-use Rattle.decimal.specs.Read.{digits_read}
 use Rattle.decimal.proofs.Laws.{tenfold, ten_le}
-use Rattle.decimal.proofs.ReadLaws.{read_from, read_start, read_end, read_short, read_stop, read_on, low_byte, high_byte, digit_byte}
+use Rattle.decimal.proofs.ReadLaws.{read_start, read_end, read_short, read_stop, read_on, low_byte, high_byte, digit_byte}
 use Rattle.decimal.proofs.digits_at.Goals as goal
 
 -- a number of fewer than sixteen digits has room for one more

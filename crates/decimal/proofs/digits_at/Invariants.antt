@@ -1,14 +1,10 @@
 -- `decimal::digits_at` meets its contract. The invariant: reading what is left, from acc on, gives the answer.
 --
-use mathlib.Core.Path.{◌≡◌, sym, ◌∙◌}
-use Prim.Native.Nat.{ℕ, ◌+◌, ◌-◌, ◌*◌, ◌^◌, ◌≤◌, ◌<◌}
-use native.Mathlib.Omega.{arith}
-use lib.ListN.{get_or}
-use borrow.Author.Rules.{rules}
+use mathlib.Core.Path.{◌≡◌}
+use Prim.Native.Nat.{◌+◌, ◌-◌, ◌^◌, ◌≤◌, ◌<◌}
 use Rattle.field.specs.Part.{part}
 use Rattle.decimal.specs.Read.{digits_read}
-use Rattle.decimal.proofs.Laws.{tenfold, ten_le}
-use Rattle.decimal.proofs.ReadLaws.{read_from, read_start, read_end, read_short, read_stop, read_on, low_byte, high_byte, digit_byte}
+use Rattle.decimal.proofs.ReadLaws.{read_from}
 use Rattle.decimal.proofs.digits_at.Given as goal
 
 abbrev pub invariant-loop-i : goal.invariant-loop-i

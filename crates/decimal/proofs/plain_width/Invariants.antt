@@ -1,10 +1,7 @@
 -- `decimal::plain_width` meets its contract. The invariant: no width below the one reached is wide enough.
-use Prim.Native.Nat.{ℕ, ◌-◌, ◌^◌, ◌≤◌, ◌<◌}
+use Prim.Native.Nat.{◌-◌, ◌^◌, ◌≤◌}
 use mathlib.Core.Path.{◌≡◌}
-use native.Mathlib.Omega.{arith}
 use Rattle.decimal.specs.Digits.{plain_width}
-use Rattle.decimal.proofs.Laws.{tenfold}
-use Rattle.decimal.proofs.PlainLaws.{plain_some, plain_le, plain_more}
 use Rattle.decimal.proofs.plain_width.Given as goal
 
 abbrev pub invariant-loop-power : goal.invariant-loop-power

@@ -1,15 +1,9 @@
 -- `decimal::put_digits` meets its contract. The invariant: what is left to write, written, gives what was to be written.
-use mathlib.Core.Path.{◌≡◌, refl, sym, ap, ◌∙◌}
-use mathlib.Core.List.{List}
-use Prim.Native.Nat.{ℕ, zero, suc, ◌+◌, ◌-◌, ◌*◌, ◌/◌, ◌%◌, ◌^◌, ◌≤◌, ◌<◌}
-use native.Mathlib.Nat.{pow-suc, mod-lt, div-lt_iff_lt-mul}
-use native.Mathlib.Omega.{arith}
-use lib.ListN.{length, set, length-set}
-use borrow.Author.Rules.{rules}
+use mathlib.Core.Path.{◌≡◌}
+use Prim.Native.Nat.{◌+◌, ◌^◌, ◌≤◌, ◌<◌}
+use lib.ListN.{length}
 use Rattle.decimal.specs.Digits.{digits}
 use Rattle.field.specs.Part.{put}
-use Rattle.field.proofs.Put.{put_nil, put_cons}
-use Rattle.decimal.proofs.Laws.{ten_pos, ten_le, digits_first, length_digits}
 use Rattle.decimal.proofs.put_digits.Given as goal
 
 abbrev pub invariant-loop-left : goal.invariant-loop-left

@@ -1,9 +1,6 @@
 -- `decimal::take_out` meets its contract. The invariant: what was taken out and what is left are the number.
-use Prim.Native.Nat.{ℕ, ◌+◌, ◌-◌, ◌*◌, ◌≤◌, ◌<◌}
+use Prim.Native.Nat.{◌+◌, ◌*◌}
 use mathlib.Core.Path.{◌≡◌}
-use native.Mathlib.Nat.{add-mul, lt_of_mul-lt-mul_right}
-use native.Mathlib.Omega.{arith}
-use Rattle.laws.proofs.Parted.{parted}
 use Rattle.decimal.proofs.take_out.Given as goal
 
 abbrev pub invariant-loop-rest : goal.invariant-loop-rest

@@ -1,8 +1,6 @@
 -- `decimal::ten_to` meets its contract. The invariant: what was reached is the power at its place.
-use Prim.Native.Nat.{ℕ, ◌-◌, ◌^◌, ◌≤◌}
+use Prim.Native.Nat.{◌-◌, ◌^◌, ◌≤◌}
 use mathlib.Core.Path.{◌≡◌}
-use native.Mathlib.Omega.{arith}
-use Rattle.decimal.proofs.Laws.{tenfold, ten_le}
 use Rattle.decimal.proofs.ten_to.Given as goal
 
 abbrev pub invariant-loop-i : goal.invariant-loop-i

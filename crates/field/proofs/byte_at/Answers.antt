@@ -1,6 +1,5 @@
 -- `field::byte_at` meets its contract.
 use lib.ListN.{get_or-eq_default}
-use borrow.Author.Rules.{rules}
 use Rattle.field.proofs.byte_at.Goals as goal
 
 pub returns-else-i-s : goal.returns-else-i-s

@@ -1,6 +1,5 @@
 -- `field::get32` meets its contract.
 use Rattle.field.proofs.Numbers.{four}
-use borrow.Author.Rules.{rules}
 use Rattle.field.proofs.get32.Goals as goal
 
 pub returns : goal.returns

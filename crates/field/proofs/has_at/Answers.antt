@@ -1,10 +1,7 @@
-use mathlib.Core.Path.{◌≡◌, sym, ◌∙◌}
-use Prim.Native.Nat.{◌-◌, ◌≤◌}
+use mathlib.Core.Path.{sym, ◌∙◌}
 use native.Mathlib.Omega.{arith}
-use lib.ListN.{length}
 use borrow.Author.Tests.{eq-eqb, ne_eqb}
-use Rattle.field.specs.Bytes.{has_at}
-use Rattle.field.proofs.Same.{has_short, has_past, rest_at, rest_start, rest_turn, rest_end}
+use Rattle.field.proofs.Same.{has_short, has_past, rest_start, rest_turn, rest_end}
 use Rattle.field.proofs.has_at.Goals as goal
 
 pub returns-then-s-at : goal.returns-then-s-at

@@ -1,11 +1,9 @@
 -- `field::has_at` meets its contract. The invariant: comparing what is left gives the answer.
-use mathlib.Core.Path.{◌≡◌, sym, ◌∙◌}
+use mathlib.Core.Path.{◌≡◌}
 use Prim.Native.Nat.{◌-◌, ◌≤◌}
-use native.Mathlib.Omega.{arith}
 use lib.ListN.{length}
-use borrow.Author.Tests.{eq-eqb, ne_eqb}
 use Rattle.field.specs.Bytes.{has_at}
-use Rattle.field.proofs.Same.{has_short, has_past, rest_at, rest_start, rest_turn, rest_end}
+use Rattle.field.proofs.Same.{rest_at}
 use Rattle.field.proofs.has_at.Given as goal
 
 abbrev pub invariant-loop-j : goal.invariant-loop-j

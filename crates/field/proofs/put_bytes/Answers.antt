@@ -1,11 +1,10 @@
 use mathlib.Core.Path.{◌≡◌, refl, sym, ap, ◌∙◌}
 use mathlib.Core.List.{List}
-use Prim.Native.Nat.{ℕ, ◌+◌, ◌-◌, ◌≤◌, ◌<◌}
+use Prim.Native.Nat.{ℕ, ◌+◌, ◌<◌}
 use native.Mathlib.Numerals.{add-one}
 use native.Mathlib.Omega.{arith}
 use lib.ListN.{length, set, get_or, drop, length-set}
 use lib.Seq.{drop-cons, drop-length}
-use borrow.Author.Rules.{rules}
 use Rattle.field.specs.Part.{put}
 use Rattle.field.proofs.Put.{put_nil, put_cons}
 use Rattle.field.proofs.put_bytes.Goals as goal

@@ -1,7 +1,6 @@
 -- `field::wide_at` meets its contract.
 use mathlib.Core.Path.{refl}
 use native.Mathlib.Omega.{arith}
-use borrow.Author.Rules.{rules}
 use Rattle.field.proofs.wide_at.Goals as goal
 
 pub overflow_cast-result : goal.overflow_cast-result

@@ -4,7 +4,6 @@ use native.Mathlib.Omega.{arith}
 use Rattle.field.proofs.Same.{has_room}
 use Rattle.labelled.proofs.Fields.{eight, fields}
 use Rattle.labelled.specs.Labelled.{field_after}
-use borrow.Author.Rules.{rules}
 use Rattle.labelled.proofs.field_after.Goals as goal
 
 pub overflow_add-at : goal.overflow_add-at

@@ -1,6 +1,5 @@
 -- `labelled::put_after` meets its contract.
 use Rattle.labelled.proofs.Fields.{wrote_after}
-use borrow.Author.Rules.{rules}
 use Rattle.labelled.proofs.put_after.Goals as goal
 
 pub returns : goal.returns

@@ -1,9 +1,4 @@
-use Prim.Native.Nat.{◌-◌, ◌≤◌, max}
-use mathlib.Core.Path.{◌≡◌}
-use mathlib.Core.Bool.{false}
 use native.Mathlib.Omega.{arith}
-use lib.ListN.{length}
-use Rattle.scan.specs.Run.{blank_end}
 use Rattle.scan.proofs.Blanks.{blanks}
 use Rattle.scan.proofs.blank_end.Goals as goal
 

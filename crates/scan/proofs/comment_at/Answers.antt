@@ -1,6 +1,5 @@
 -- `scan::comment_at` meets its contract.
 use Rattle.laws.proofs.Choose.{choose}
-use borrow.Author.Rules.{rules}
 use Rattle.scan.proofs.comment_at.Goals as goal
 
 pub returns : goal.returns

@@ -1,5 +1,4 @@
 -- `scan::digit_at` meets its contract.
-use borrow.Author.Rules.{rules}
 use Rattle.scan.proofs.digit_at.Goals as goal
 
 pub returns : goal.returns

@@ -1,8 +1,6 @@
-use Prim.Native.Nat.{◌-◌, ◌≤◌}
 use native.Mathlib.Omega.{arith}
-use lib.ListN.{length}
 use Rattle.scan.specs.Kinds.{is_text_byte}
-use Rattle.scan.proofs.Runs.{scan, Passed, pass_none, pass_next, pass_all}
+use Rattle.scan.proofs.Runs.{scan, pass_none, pass_next, pass_all}
 use Rattle.scan.proofs.is_all_text.Goals as goal
 
 pub loop-i-init : goal.loop-i-init

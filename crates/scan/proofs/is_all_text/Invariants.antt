@@ -1,9 +1,8 @@
 -- `scan::is_all_text` meets its contract: at every turn it is known whether the run has ended before i.
 use Prim.Native.Nat.{◌-◌, ◌≤◌}
-use native.Mathlib.Omega.{arith}
 use lib.ListN.{length}
 use Rattle.scan.specs.Kinds.{is_text_byte}
-use Rattle.scan.proofs.Runs.{scan, Passed, pass_none, pass_next, pass_all}
+use Rattle.scan.proofs.Runs.{Passed}
 use Rattle.scan.proofs.is_all_text.Given as goal
 
 abbrev pub invariant-loop-i : goal.invariant-loop-i

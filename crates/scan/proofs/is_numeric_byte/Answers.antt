@@ -1,5 +1,4 @@
 use Rattle.scan.proofs.Tests.{kinds}
-use borrow.Author.Rules.{rules}
 use Rattle.scan.proofs.is_numeric_byte.Goals as goal
 
 pub returns-then-is_digit : goal.returns-then-is_digit

@@ -1,5 +1,4 @@
 use Rattle.laws.proofs.Choose.{choose}
-use borrow.Author.Rules.{rules}
 use Rattle.scan.proofs.is_of.Goals as goal
 
 pub returns-then-kind-eq-WORD : goal.returns-then-kind-eq-WORD

@@ -1,5 +1,4 @@
 use Rattle.scan.proofs.Tests.{kinds}
-use borrow.Author.Rules.{rules}
 use Rattle.scan.proofs.is_word_byte.Goals as goal
 
 pub returns-then-is_letter : goal.returns-then-is_letter

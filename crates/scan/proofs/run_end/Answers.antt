@@ -1,10 +1,4 @@
-use Prim.Native.Nat.{◌-◌, ◌≤◌}
-use Prim.Native.Nat.{max}
-use mathlib.Core.Path.{◌≡◌}
 use native.Mathlib.Omega.{arith}
-use lib.ListN.{length}
-use Rattle.scan.specs.Kinds.{of_kind}
-use Rattle.scan.specs.Run.{run_end}
 use Rattle.scan.proofs.Runs.{scan}
 use Rattle.scan.proofs.run_end.Goals as goal
 
