@@ -1,7 +1,7 @@
 -- Answering: the ways through its tests, and what it leaves.
 use Prim.Native.Nat.{ℕ, ◌-◌, ◌≤◌}
 use mathlib.Core.Path.{◌≡◌, refl, ◌∙◌, ap, sym}
-use mathlib.Core.Bool.{Bool, true, false, not, false≢true}
+use mathlib.Core.Bool.{Bool, true, false, false≢true}
 use mathlib.Core.List.{List}
 use native.Mathlib.Omega.{arith}
 use borrow.Author.Tests.{leb-true}
@@ -31,15 +31,6 @@ use Rattle.session_table.specs.Calls.{only, verdict, names_hand, answering, answ
 use Rattle.session_table.specs.Paper.{paper_answered}
 use Rattle.session_table.specs.declared.Answered.TheVariants.{Refused as NotAnswered}
 use Rattle.session_table.proofs.Verdicts.{passed, passed_both, is_done, is_refused, keeps_bytes}
-
--- a test and its opposite
-pub is_not : (t : Bool) → not t ≡ true → t ≡ false
-is_not true e = absurd (false≢true e)
-is_not false e = refl
-
-pub is_not_not : (t : Bool) → not t ≡ false → t ≡ true
-is_not_not true e = refl
-is_not_not false e = absurd (false≢true (sym e))
 
 -- an outcome in range is stored in a number
 pub kind_fits : (o : Outcome) → is_outcome o ≡ true → kind_of o ≤ 4294967295

@@ -2,6 +2,7 @@
 // refusal, in document 01's order and 0 for none, and one that does what the call does where there is none. The others are one way through, so
 // that they search the sessions once.
 #![tactic(auto)]
+
 ghost use Rattle.std.specs.Prelude.{◌≡◌, ◌&&◌, true, ◌+◌, ◌<◌};
 ghost use Rattle.counts.specs.Limits.{commands, programs};
 ghost use Rattle.counts.specs.Result.{done};

@@ -1,5 +1,6 @@
 // The reply of a session: the records of its answers in order, text empty.
 #![tactic(auto)]
+
 ghost use Rattle.std.specs.Prelude.{◌≡◌, true, [], ◌+◌, ◌<◌, ◌≤◌, length};
 ghost use Rattle.counts.specs.Limits.{commands, sessions};
 ghost use Rattle.field.specs.Part.{Wrote};

@@ -1,5 +1,6 @@
 // The searches of the session table's calls: the lowest open number, the next session in turn, the session that may be collected.
 #![tactic(auto)]
+
 ghost use Rattle.std.specs.Prelude.{◌≡◌, ◌<◌, ◌≤◌};
 ghost use Rattle.counts.specs.Limits.{sessions};
 ghost use Rattle.sessions.specs.Table.{turn_from};

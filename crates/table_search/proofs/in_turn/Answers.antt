@@ -1,0 +1,9 @@
+use Rattle.laws.proofs.Choose.{choose}
+use borrow.Author.Rules.{rules}
+use Rattle.table_search.proofs.in_turn.Goals as goal
+
+pub returns-then-s-t : goal.returns-then-s-t
+returns-then-s-t c = (search choose depth 9, search rules)
+
+pub returns : goal.returns
+returns c = (search choose depth 9, search rules)
