@@ -242,7 +242,7 @@ fn store_answer(slot: &mut Slot, a: Answer)
     *slot = with_answer(*slot, a);
 }
 
-// From a slot by value to a slot by value, so that whoever calls it needs no walk.
+// From a slot by value to a slot by value: it lends its own to `store_answer`.
 fn stored(slot: Slot, a: Answer) -> Slot
     requires { slot.head.answered < commands }
     ensures { result ≡ with_entry slot a }
