@@ -14,7 +14,6 @@ use Rattle.field.proofs.Parts.{head_at}
 use Rattle.field.proofs.Same.{has_then, then_has, has_room}
 use Rattle.delimited.specs.Lines.{is_delimiter, separator}
 use Rattle.delimited.specs.Separators.{separator_at}
-use Rattle.delimited.specs.declared.Separator.{Separator}
 use Rattle.delimited.specs.declared.Separator.TheVariants.{Field, Line, Neither}
 use Rattle.delimited.proofs.Lines.{delimiter≢0, delimiter≢13}
 

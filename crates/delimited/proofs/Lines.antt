@@ -1,15 +1,13 @@
 -- Laws of lines: the four delimiters, how long lines and their cells are, and what the cells of lines are parts of.
-use Prim.Native.Nat.{ℕ, suc, ◌+◌, ◌*◌, ◌≤◌}
-use mathlib.Core.Path.{◌≡◌, refl, sym, ◌∙◌, ap}
+use Prim.Native.Nat.{ℕ, ◌+◌, ◌*◌, ◌≤◌}
+use mathlib.Core.Path.{◌≡◌, refl}
 use mathlib.Core.Bool.{Bool, true, false, false≢true, ◌||◌}
-use mathlib.Core.List.{List, [], ◌∷◌, ◌++◌, append_assoc}
+use mathlib.Core.List.{List, [], ◌∷◌, ◌++◌}
 use native.Mathlib.Omega.{arith}
 use borrow.Author.Tests.{eqb-true}
 use lib.Dec.{eqb}
-use lib.ListN.{length, drop, length-append}
-use Rattle.field.specs.Part.{part}
-use Rattle.field.proofs.Parts.{part_is, rest_is}
-use Rattle.delimited.specs.Lines.{is_delimiter, separator, others, line, lines, places_of, cells_of, Each, none, and, Parts, no_more, part_and}
+use lib.ListN.{length, length-append}
+use Rattle.delimited.specs.Lines.{is_delimiter, separator, others, line, lines, places_of, cells_of, Each, none, and}
 
 -- what holds of the four holds of every delimiter
 pub of_four : (P : ℕ → Type 0) → P 44 → P 59 → P 124 → P 9 → (d : ℕ) → is_delimiter d ≡ true → P d

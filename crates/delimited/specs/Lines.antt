@@ -1,5 +1,5 @@
 -- Lines of fields (document 02, P1): the delimiters, the bytes of lines, and where their fields stand. A field is its bytes, a line is its fields.
-use Rattle.std.specs.Prelude.{ℕ, ◌+◌, ◌≤◌, ◌≡◌, Bool, true, false, ◌||◌, List, [], ◌∷◌, ◌++◌, eqb, length}
+use Rattle.std.specs.Prelude.{ℕ, ◌+◌, ◌≤◌, Bool, true, false, ◌||◌, List, [], ◌∷◌, ◌++◌, eqb, length}
 use Rattle.field.specs.Bytes.{ascii}
 use Rattle.field.specs.Part.{part}
 

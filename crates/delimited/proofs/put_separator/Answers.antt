@@ -1,6 +1,5 @@
 -- `delimited::put_separator` meets its contract.
 use native.Mathlib.Omega.{arith}
-use borrow.Author.Rules.{rules}
 use Rattle.field.proofs.Put.{wrote_byte}
 use Rattle.delimited.proofs.put_separator.Goals as goal
 

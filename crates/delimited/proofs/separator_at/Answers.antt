@@ -1,6 +1,5 @@
 -- `delimited::separator_at` meets its contract.
 use Rattle.laws.proofs.Choose.{choose}
-use borrow.Author.Rules.{rules}
 use Rattle.delimited.specs.Separators.{separator_at}
 use Rattle.delimited.proofs.separator_at.Goals as goal
 

@@ -1,7 +1,6 @@
 -- `moment::is_real` meets its contract.
 use mathlib.Core.Path.{sym, ◌∙◌}
 use Rattle.moment.specs.Moment.{real_moment}
-use borrow.Author.Rules.{rules}
 use Rattle.moment.proofs.is_real.Goals as goal
 
 pub returns-then-is_real_date : goal.returns-then-is_real_date

@@ -3,7 +3,6 @@ use native.Mathlib.Omega.{arith}
 use Rattle.labelled.proofs.Fields.{read_room}
 use Rattle.moment.specs.Reading.{moment_after}
 use Rattle.moment.proofs.Moments.{moments}
-use borrow.Author.Rules.{rules}
 use Rattle.moment.proofs.moment_after.Goals as goal
 
 pub returns-in_default : goal.returns-in_default

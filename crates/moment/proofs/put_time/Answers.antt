@@ -1,6 +1,5 @@
 -- `moment::put_time` meets its contract.
 use Rattle.moment.proofs.Moments.{wrote_time}
-use borrow.Author.Rules.{rules}
 use Rattle.moment.proofs.put_time.Goals as goal
 
 pub returns : goal.returns

@@ -1,5 +1,4 @@
 use Rattle.table_layout.specs.Layout.{table_of}
-use borrow.Author.Rules.{rules}
 use Rattle.table_layout.proofs.get_table.Goals as goal
 
 pub returns : goal.returns

@@ -1,5 +1,4 @@
 use Rattle.table_layout.specs.Layout.{number}
-use borrow.Author.Rules.{rules}
 use Rattle.table_layout.proofs.number_at.Goals as goal
 
 pub returns : goal.returns

@@ -1,5 +1,4 @@
 use Rattle.table_layout.specs.Layout.{put_number}
-use borrow.Author.Rules.{rules}
 use Rattle.table_layout.proofs.put_number.Goals as goal
 
 pub returns : goal.returns

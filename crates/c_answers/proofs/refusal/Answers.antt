@@ -4,8 +4,7 @@ use mathlib.Core.Path.{◌≡◌}
 use native.Mathlib.Omega.{arith}
 use lib.Bits.{bit_and, and_mask, and_le_r}
 use borrow.Author.Rules.{rules}
-use Rattle.c_answers.proofs.refusal.Statement.{statement}
-use Rattle.c_answers.proofs.refusal.Tie as tie
+use Rattle.c_answers.proofs.refusal.Goals as goal
 
 low_8 : (n : ℕ) → bit_and n 255 ≡ n % 256
 low_8 n = and_mask n 8
@@ -23,17 +22,14 @@ place_fits n mask h = omega (arith, and_le_r n mask)
 both_fit : (n p mask : ℕ) → mask < 2 ^ 56 → bit_and n 255 + 256 * bit_and p mask < 2 ^ 64
 both_fit n p mask h = omega (arith, and_le_r n 255, and_le_r p mask)
 
-cast-result : tie.Need-overflow-cast-result
-cast-result c = search (rules, number_fits)
+pub overflow_cast-result : goal.overflow_cast-result
+overflow_cast-result c = search (rules, number_fits)
 
-mul-result : tie.Need-overflow-mul-result
-mul-result c = search (rules, place_fits)
+pub overflow_mul-result : goal.overflow_mul-result
+overflow_mul-result c = search (rules, place_fits)
 
-add-result : tie.Need-overflow-add-result
-add-result c = search (rules, both_fit)
+pub overflow_add-result : goal.overflow_add-result
+overflow_add-result c = search (rules, both_fit)
 
-returns : tie.Need-returns
+pub returns : goal.returns
 returns c = simp (low_8, low_56)
-
-pub refusal-spec : {M : Type 1} → statement M
-refusal-spec = tie.close (tie.spec cast-result mul-result add-result returns)
