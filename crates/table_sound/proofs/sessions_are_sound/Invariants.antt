@@ -10,7 +10,9 @@ use Rattle.table_sound.specs.Bytes.{abs, Seen, hand_known}
 use Rattle.table_sound.proofs.sessions_are_sound.Given as goal
 
 abbrev pub invariant-loop-s : goal.invariant-loop-s
-invariant-loop-s l = (l.s ≤ sessions) × (length l.seen ≡ sessions) × Seen l.b l.s l.seen × (all l.s (λ i. slot_sound (abs l.b) i (slot_of l.b i)) ≡ true) × (l.waits ≡ hand_known l.b l.t.hand l.s)
+invariant-loop-s l =
+    (l.s ≤ sessions) × (length l.seen ≡ sessions) × Seen l.b l.s l.seen × (all l.s (λ i. slot_sound (abs l.b) i (slot_of l.b i)) ≡ true)
+    × (l.waits ≡ hand_known l.b l.t.hand l.s)
 
 abbrev pub decreases-loop-s : goal.decreases-loop-s
 decreases-loop-s l = sessions - l.s
