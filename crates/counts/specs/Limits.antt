@@ -9,10 +9,6 @@ file_bytes = 65535
 abbrev pub word_bytes : ℕ
 word_bytes = 255
 
--- P11: "numbers of 1 to 3 digits"
-abbrev pub index_digits : ℕ
-index_digits = 3
-
 -- "String: byte 34, then 0 to 255 bytes"
 abbrev pub text_bytes : ℕ
 text_bytes = 255
@@ -56,3 +52,9 @@ ticket_most = 4294967295
 -- P1: "1 to 64 columns"
 abbrev pub columns : ℕ
 columns = 64
+
+-- ---- Need not be believed: it binds functions inside alone, and no claim cites it
+
+-- P11: "numbers of 1 to 3 digits"
+abbrev pub index_digits : ℕ
+index_digits = 3

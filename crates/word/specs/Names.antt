@@ -1,4 +1,5 @@
--- What a word is, as its bytes stand (document 01, "Bytes and tokens", "The job grammar"; document 02, P11).
+-- What a word is, as its bytes stand (document 01, "Bytes and tokens", "The job grammar"; document 02, P11). Need not be believed: no word is read so by now,
+-- and no claim cites it.
 use Rattle.std.specs.Prelude.{ℕ, ◌+◌, ◌-◌, ◌≤◌, ◌<◌, ◌≡◌, true, false, ◌⊎◌, length, get_or, drop}
 use mathlib.Core.List.{List, [], ◌++◌, Memᴰ}
 use Rattle.field.specs.Bytes.{has_at, ascii}

@@ -72,7 +72,8 @@ is_name Other = false
 is_name Name = true
 is_name TimeGe = false
 
--- ---- P11, of which no word is read by now: a bracket group and a name with one, as they are found
+-- ---- Need not be believed: P11, of which no word is read by now, a bracket group and a name with one, as they are found. They bind functions inside alone,
+-- and no claim cites them.
 
 -- a number may have n digits
 abbrev pub is_index : ℕ → Bool
