@@ -7,7 +7,7 @@ use mathlib.Core.List.{List}
 use lib.Dec.{eqb, leb}
 use lib.ListN.{length}
 use borrow.Author.Tests.{le-leb, lt-leb, leb-true, leb-false}
-use Rattle.counts.specs.Refusals.{not_real, not_aRecord, too_little_room}
+use Rattle.counts.specs.Refusals.{not_real, not_a_record, too_little_room}
 use Rattle.counts.proofs.Results.{refused_not_done}
 use Rattle.counts.specs.Result.{Result, refused, done}
 use Rattle.moment.specs.Moment.{real_moment}
@@ -27,7 +27,7 @@ unfolding written write_refusal
 write_rows limit c out = go (fields_in_range limit c) (real_moment c.date c.time) (leb (length (record_bytes c)) (length out)) refl refl refl
   where
     go : (t u v : Bool) → fields_in_range limit c ≡ t → real_moment c.date c.time ≡ u → leb (length (record_bytes c)) (length out) ≡ v
-        → let no = cond t (cond u (cond v 0 too_little_room) not_real) not_aRecord in
+        → let no = cond t (cond u (cond v 0 too_little_room) not_real) not_a_record in
         WriteRow limit c (length out) (cond (eqb no 0) (done (length (record_bytes c))) (refused no 0))
     go true true true p q r = record_written p q (leb-true _ _ r)
     go true true false p q r = eight p q (leb-false _ _ r)
@@ -61,7 +61,7 @@ module _ (limit : ℕ) (most : limit < 100000000) (s : List ℕ) where
   read_row_is v (record_read_row c ok bytes) = (read_exactly limit most s c).1 (ok, bytes)
   read_row_is v (no_record none) = go (record_read limit s) refl
     where
-      go : (x : Result Record) → record_read limit s ≡ x → with_text s x ≡ refused not_aRecord 0
+      go : (x : Result Record) → record_read limit s ≡ x → with_text s x ≡ refused not_a_record 0
       go (done r) e = let c = (read_exactly limit most s (content_of s r)).0 (ap (with_text s) e) in absurd (none (content_of s r) c.0 c.1)
       go (refused n p) e = let seven-only = only_seven limit s n p e in rw (seven-only.0, seven-only.1)
 

@@ -4,7 +4,7 @@
 use Rattle.std.specs.Prelude.{ℕ, zero, suc, ◌+◌, ◌-◌, ◌*◌, ◌^◌, ◌≤◌, ◌<◌, ◌≡◌, Bool, true, false, cond, ◌↔◌, ◌⊎◌, nat_abs, length, get_or, drop}
 use mathlib.Core.List.{List, [], ◌∷◌, ◌++◌, Memᴰ}
 use Rattle.counts.specs.Limits.{file_bytes, statements, commands, older_commands, sessions}
-use Rattle.counts.specs.Refusals.{file_too_long, too_few_places, no_token, unexpected, not_real, too_many_statements, not_aRecord, too_little_room, out_of_range, unsound, open_string, broken_string, misshapen, end_of_file}
+use Rattle.counts.specs.Refusals.{file_too_long, too_few_places, no_token, unexpected, not_real, too_many_statements, not_a_record, too_little_room, out_of_range, unsound, open_string, broken_string, misshapen, end_of_file}
 use Rattle.counts.specs.Result.{Result, refused, done, counted}
 use Rattle.field.specs.Bytes.{ascii}
 use Rattle.field.specs.Part.{part, put}
@@ -316,7 +316,7 @@ pub record Reports : Type 0 where
   -- what is told of a report are the places and lengths of its names and values in the text: "a number keeps its digits"
   pub told_parts : (d : ℕ) (r : Rows) (text : List ℕ) → Report d r text → Parts text (told d r).cells (fields (r.names ∷ r.values))
   -- "7, reading with the start of the first line that doesn't fit"
-  pub break_exactly : (d : ℕ) (text : List ℕ) (room p : ℕ) → read_report d text room ≡ refused not_aRecord p ↔ ((is_delimiter d ≡ true) × Breaks d text p)
+  pub break_exactly : (d : ℕ) (text : List ℕ) (room p : ℕ) → read_report d text room ≡ refused not_a_record p ↔ ((is_delimiter d ≡ true) × Breaks d text p)
   -- "Text to rows and back must agree whichever delimiter is chosen, proved once for the four."
   pub rows_to_text_to_rows : (d : ℕ) → is_delimiter d ≡ true → (source cells : List ℕ) (many : ℕ) (r : Rows) → Given source cells many r → (room lent : ℕ)
       → length (report_text d r) ≤ room → length (told d r).cells ≤ lent
@@ -392,7 +392,7 @@ pub record MoreCommands : Type 0 where
   pub older_reader_agrees : (older : ℕ) → older ≤ commands → (s : List ℕ) (r : Record) → record_read commands s ≡ done r → r.number.0 ≤ older
       → record_read older s ≡ done r
   pub older_reader_refuses : (older : ℕ) → older ≤ commands → (s : List ℕ)
-      → ((r : Record) → record_read commands s ≡ done r → older < r.number.0 → record_read older s ≡ refused not_aRecord 0)
+      → ((r : Record) → record_read commands s ≡ done r → older < r.number.0 → record_read older s ≡ refused not_a_record 0)
       × ((n p : ℕ) → record_read commands s ≡ refused n p → record_read older s ≡ refused n p)
   -- "Tables in the old size are refused as unsound and must be made anew.": any bytes of that size, by every call
   pub sizes : (table_bytes ≡ 103440) × (older_table ≡ 33808)

@@ -6,7 +6,7 @@ use Prim.Native.String.{String}
 use Rattle.field.specs.Bytes.{ascii, same}
 use Rattle.calendar.specs.Calendar.{real_date, real_time}
 use Rattle.counts.specs.Limits.{statements, commands, older_commands}
-use Rattle.counts.specs.Refusals.{no_token, unexpected, not_real, not_aRecord, too_little_room, out_of_range, open_string, broken_string, misshapen, end_of_file, not_comparable}
+use Rattle.counts.specs.Refusals.{no_token, unexpected, not_real, not_a_record, too_little_room, out_of_range, open_string, broken_string, misshapen, end_of_file, not_comparable}
 use Rattle.counts.specs.Result.{Result, refused, done}
 use Rattle.grammar.specs.declared.StartClause.TheVariants.{Required, Optional}
 use Rattle.grammar.specs.Statement.{Start}
@@ -177,9 +177,9 @@ examples =
     ∷ row "strings by their bytes" (is_due true (with_text "p = \"mould 7\"" "mould 7") && is_due true (with_text "p != \"mould 7\"" "mould 72"))
     ∷ row "an order between strings: 19" (is_refused not_comparable 0 (with_text "p < \"b\"" "a"))
     ∷ row "a number against a string: 19" (is_refused not_comparable 0 (with_number "p = \"1\"" (pos 1) 0))
-    ∷ row "a value of 17 digits: 7, before 19" (is_refused not_aRecord 0 (with_number "p = \"1\"" (pos 10000000000000000) 0))
-    ∷ row "a value of scale 16: 7" (is_refused not_aRecord 0 (with_number "p = 1" (pos 1) 16))
-    ∷ row "a quote in a value: 7" (is_refused not_aRecord 0 (with_text "p = \"a\"" "a\""))
+    ∷ row "a value of 17 digits: 7, before 19" (is_refused not_a_record 0 (with_number "p = \"1\"" (pos 10000000000000000) 0))
+    ∷ row "a value of scale 16: 7" (is_refused not_a_record 0 (with_number "p = 1" (pos 1) 16))
+    ∷ row "a quote in a value: 7" (is_refused not_a_record 0 (with_text "p = \"a\"" "a\""))
     ∷ row "24:00:00 at present: 5, before 7" (is_refused not_real 0 (decided "p = 1" 20261117 240000 (start.text (ascii "a\""))))
     ∷ row "taken up on 20260229: 5, also where the clause is IMMEDIATE"
     (is_refused not_real 0 (decision (given [] 20261117 80000 20260229 (start.text [])) immediate))
@@ -187,12 +187,12 @@ examples =
     ∷ row "ERROR: 51" (eqb (record_length (Error 6 16)) 51)
     ∷ row "ERROR, n 200, a text of 255 bytes: 308" (eqb (length (record_bytes (content 200 (Error 99 99999999) (replicate 255 116) 20240430 235959))) 308)
     ∷ row "n 65: taken" (is_taken (record_read commands (numbered "65")))
-    ∷ row "n 65 before a reader up to 64: 7" (is_refused not_aRecord 0 (record_read older_commands (numbered "65")))
+    ∷ row "n 65 before a reader up to 64: 7" (is_refused not_a_record 0 (record_read older_commands (numbered "65")))
     ∷ row "n 64 before that reader: taken" (is_taken (record_read older_commands (numbered "64")))
     ∷ row "n 200: taken" (is_taken (record_read commands (numbered "200")))
-    ∷ row "n 201: 7" (is_refused not_aRecord 0 (record_read commands (numbered "201")))
-    ∷ row "n 1000: 7" (is_refused not_aRecord 0 (record_read commands (numbered "1000")))
-    ∷ row "n 0200: 7" (is_refused not_aRecord 0 (record_read commands (numbered "0200")))
+    ∷ row "n 201: 7" (is_refused not_a_record 0 (record_read commands (numbered "201")))
+    ∷ row "n 1000: 7" (is_refused not_a_record 0 (record_read commands (numbered "1000")))
+    ∷ row "n 0200: 7" (is_refused not_a_record 0 (record_read commands (numbered "0200")))
     ∷ row "date 20240431: refused" (not (real_date 20240431))
     ∷ row "20240430: taken" (real_date 20240430)
     ∷ row "19970229: refused" (not (real_date 19970229))
@@ -212,12 +212,12 @@ examples =
     ∷ row "a report of one name" (is_told 1 0 (0 ∷ 1 ∷ []) (report "a\r\n"))
     ∷ row "a string may hold the delimiter" (is_told 2 1 (0 ∷ 1 ∷ 2 ∷ 1 ∷ 5 ∷ 1 ∷ 7 ∷ 5 ∷ []) (report "a,b\r\n1,\"x,y\"\r\n"))
     ∷ row "-0, 007 and 2.50 come back as they were" (is_written_again "a\r\n-0\r\n007\r\n2.50\r\n" (report "a\r\n-0\r\n007\r\n2.50\r\n"))
-    ∷ row "empty file: 7 at 0" (is_refused not_aRecord 0 (report ""))
-    ∷ row "a reserved word as a name: 7 at 0" (is_refused not_aRecord 0 (report "a,TIME\r\n"))
-    ∷ row "one value less: 7 at the line's start" (is_refused not_aRecord 10 (report "a,b\r\n1,2\r\n3\r\n"))
-    ∷ row "no CR LF at the end: 7 at the line's start" (is_refused not_aRecord 5 (report "a,b\r\n1,2"))
-    ∷ row "an empty line: 7 at its start" (is_refused not_aRecord 3 (report "a\r\n\r\n"))
-    ∷ row "a time is no value: 7 at the line's start" (is_refused not_aRecord 3 (report "a\r\n10:16:30\r\n"))
+    ∷ row "empty file: 7 at 0" (is_refused not_a_record 0 (report ""))
+    ∷ row "a reserved word as a name: 7 at 0" (is_refused not_a_record 0 (report "a,TIME\r\n"))
+    ∷ row "one value less: 7 at the line's start" (is_refused not_a_record 10 (report "a,b\r\n1,2\r\n3\r\n"))
+    ∷ row "no CR LF at the end: 7 at the line's start" (is_refused not_a_record 5 (report "a,b\r\n1,2"))
+    ∷ row "an empty line: 7 at its start" (is_refused not_a_record 3 (report "a\r\n\r\n"))
+    ∷ row "a time is no value: 7 at the line's start" (is_refused not_a_record 3 (report "a\r\n10:16:30\r\n"))
     ∷ row "a colon is no delimiter: 11" (is_refused out_of_range 0 (read_report 58 (ascii "a\r\n") 16))
     ∷ row "room for one cell of two: 8" (is_refused too_little_room 0 (read_report 44 (ascii "a,b\r\n") 3))
     ∷ []

@@ -2,7 +2,7 @@
 -- passed. b are the lent bytes, and σ is the table that they hold.
 use Rattle.std.specs.Prelude.{ℕ, ◌+◌, ◌≤◌, ◌<◌, ◌≡◌, Bool, true, false, ◌&&◌, List, length}
 use Rattle.counts.specs.Limits.{commands, programs, sessions, ticket_most}
-use Rattle.counts.specs.Refusals.{not_real, not_aRecord, too_little_room, all_taken, not_the_one, out_of_range, no_ticket_left, unsound, nothing_unanswered}
+use Rattle.counts.specs.Refusals.{not_real, not_a_record, too_little_room, all_taken, not_the_one, out_of_range, no_ticket_left, unsound, nothing_unanswered}
 use Rattle.counts.specs.Result.{Result, refused, done}
 use Rattle.record.specs.Record.{is_outcome}
 use Rattle.sessions.specs.Find.{Found, none, at, find}
@@ -52,7 +52,7 @@ pub data AnswerRow (b : List ℕ) (σ : State) (t c : ℕ) (a : Answer) : Result
   ten_other : (s : ℕ) → sound_bytes b ≡ true → σ.hand ≡ at s → names (σ.slot s) t c ≡ false → AnswerRow b σ t c a (refused not_the_one 0)
   five : (s : ℕ) → sound_bytes b ≡ true → σ.hand ≡ at s → names (σ.slot s) t c ≡ true → is_dated a ≡ false → AnswerRow b σ t c a (refused not_real 0)
   seven : (s : ℕ) → sound_bytes b ≡ true → σ.hand ≡ at s → names (σ.slot s) t c ≡ true → is_dated a ≡ true → is_outcome a.outcome ≡ false
-      → AnswerRow b σ t c a (refused not_aRecord 0)
+      → AnswerRow b σ t c a (refused not_a_record 0)
   answered : (s : ℕ) → sound_bytes b ≡ true → σ.hand ≡ at s → names (σ.slot s) t c ≡ true → is_dated a ≡ true → is_outcome a.outcome ≡ true
       → AnswerRow b σ t c a (done tt)
 

@@ -28,8 +28,8 @@ too_many_statements = 6
 
 -- "record field out of range, or bytes that are not a record"; P1: "7, reading with the start of the first line that doesn't fit"; P3: "7 for a number or
 -- string that 01 doesn't permit"
-abbrev pub not_aRecord : ℕ
-not_aRecord = 7
+abbrev pub not_a_record : ℕ
+not_a_record = 7
 
 -- "lent output too short for the whole answer"
 abbrev pub too_little_room : ℕ

@@ -1,6 +1,6 @@
 -- What writing a record answers, and what it leaves of the lent output.
 use Rattle.std.specs.Prelude.{ℕ, ◌+◌, ◌≤◌, ◌≡◌, true, cond, List, eqb, leb, length}
-use Rattle.counts.specs.Refusals.{not_aRecord, not_real, too_little_room}
+use Rattle.counts.specs.Refusals.{not_a_record, not_real, too_little_room}
 use Rattle.counts.specs.Result.{Result, refused, done, refused_as}
 use Rattle.field.specs.Part.{put}
 use Rattle.moment.specs.Moment.{real_moment}
@@ -15,7 +15,7 @@ unfoldable pub write_refusal : ℕ → Content → ℕ → ℕ
 write_refusal limit c room =
     cond (in_range limit c.number c.outcome c.text)
     (cond (real_moment c.date c.time) (cond (leb (length (record_bytes c)) room) 0 too_little_room) not_real)
-    not_aRecord
+    not_a_record
 
 -- the bytes written, or the refusal
 unfoldable pub written : ℕ → Content → List ℕ → Result ℕ

@@ -7,7 +7,7 @@ use native.Mathlib.Omega.{arith}
 use lib.Dec.{leb}
 use borrow.Author.Tests.{leb-true, le-leb}
 use Rattle.laws.proofs.Choose.{halves, and_both}
-use Rattle.counts.specs.Refusals.{not_aRecord}
+use Rattle.counts.specs.Refusals.{not_a_record}
 use Rattle.counts.specs.Result.{Result, refused, done}
 use Rattle.counts.proofs.Results.{refused_not_done, done_same}
 use Rattle.moment.specs.Moment.{real_moment}
@@ -59,14 +59,14 @@ module _ (older newer : ℕ) (below : older ≤ newer) (small : newer < 10000000
   older_agrees r h few = same_reading newer older small (omega arith) s r h few
 
   -- what it cannot take gets 7
-  no_other : ((r : Record) → record_read older s ≡ done r → ⊥) → record_read older s ≡ refused not_aRecord 0
+  no_other : ((r : Record) → record_read older s ≡ done r → ⊥) → record_read older s ≡ refused not_a_record 0
   no_other never = go (record_read older s) refl
     where
-      go : (x : Result Record) → record_read older s ≡ x → record_read older s ≡ refused not_aRecord 0
+      go : (x : Result Record) → record_read older s ≡ x → record_read older s ≡ refused not_a_record 0
       go (done r) e = absurd (never r e)
       go (refused n p) e = let (seven, nowhere) = only_seven older s n p e in e ∙ ap₂ (λ (a b : ℕ). refused a b) seven nowhere
 
-  pub older_refuses : (r : Record) → record_read newer s ≡ done r → older < r.number.0 → record_read older s ≡ refused not_aRecord 0
+  pub older_refuses : (r : Record) → record_read newer s ≡ done r → older < r.number.0 → record_read older s ≡ refused not_a_record 0
   older_refuses r h many = no_other λ q e.
       let (few, same) = never_misreads q e in
       let is : q ≡ r = done_same (sym same ∙ h) in

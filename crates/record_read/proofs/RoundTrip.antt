@@ -11,7 +11,7 @@ use lib.ListN.{length, drop}
 use lib.Seq.{drop-length}
 use borrow.Author.Tests.{le-leb, eq-eqb, eqb-true}
 use Rattle.laws.proofs.Choose.{and_left, and_right, and_both}
-use Rattle.counts.specs.Refusals.{not_aRecord}
+use Rattle.counts.specs.Refusals.{not_a_record}
 use Rattle.counts.specs.Result.{Result, refused, done}
 use Rattle.counts.proofs.Results.{refused_not_done, passed}
 use Rattle.field.specs.Bytes.{has_at}
@@ -72,7 +72,7 @@ ReadPermitted =
 
 -- "Any other bytes get 7": the reader gives no other number, and no place
 abbrev pub OnlySeven : Type 0
-OnlySeven = (limit : ℕ) (s : List ℕ) (n p : ℕ) → record_read limit s ≡ refused n p → (n ≡ not_aRecord) × (p ≡ 0)
+OnlySeven = (limit : ℕ) (s : List ℕ) (n p : ℕ) → record_read limit s ≡ refused n p → (n ≡ not_a_record) × (p ≡ 0)
 
 -- the bytes of s from at on begin with the record of c, a permitted one, which ends at e
 abbrev pub Begins : ℕ → List ℕ → ℕ → Content → ℕ → Type 0
@@ -149,7 +149,7 @@ unfolding record_read
 whole limit s r h = go (record_at limit s 0) refl h
   where
     go : (d : FirstRecord) → record_at limit s 0 ≡ d
-        → on_record d (refused not_aRecord 0) (λ q e. cond (eqb e (length s)) (done q) (refused not_aRecord 0)) ≡ done r → Was limit s 0 r (length s)
+        → on_record d (refused not_a_record 0) (λ q e. cond (eqb e (length s)) (done q) (refused not_a_record 0)) ≡ done r → Was limit s 0 r (length s)
     go (Ends q e) p f =
         let (t, same) = passed (eqb e (length s)) _ _ _ f in
         let is : q ≡ r = cc in
@@ -209,11 +209,11 @@ pub only_seven : OnlySeven
 unfolding record_read
 only_seven limit s n p h = go (record_at limit s 0) h
   where
-    seven : (b : Bool) (r : Record) → cond b (done r) (refused not_aRecord 0) ≡ refused n p → (n ≡ not_aRecord) × (p ≡ 0)
+    seven : (b : Bool) (r : Record) → cond b (done r) (refused not_a_record 0) ≡ refused n p → (n ≡ not_a_record) × (p ≡ 0)
     seven true r f = absurd (refused_not_done (sym f))
     seven false r f = (cc, cc)
 
-    go : (d : FirstRecord) → on_record d (refused not_aRecord 0) (λ q e. cond (eqb e (length s)) (done q) (refused not_aRecord 0)) ≡ refused n p
-        → (n ≡ not_aRecord) × (p ≡ 0)
+    go : (d : FirstRecord) → on_record d (refused not_a_record 0) (λ q e. cond (eqb e (length s)) (done q) (refused not_a_record 0)) ≡ refused n p
+        → (n ≡ not_a_record) × (p ≡ 0)
     go (Ends q e) f = seven (eqb e (length s)) q f
     go NoRecord f = (cc, cc)

@@ -7,7 +7,7 @@ use mathlib.Core.List.{List}
 use lib.Dec.{leb}
 use borrow.Author.Tests.{leb-true}
 use Rattle.laws.proofs.Choose.{and_left, and_right}
-use Rattle.counts.specs.Refusals.{not_aRecord, refusal}
+use Rattle.counts.specs.Refusals.{not_a_record, refusal}
 use Rattle.counts.specs.Result.{refused}
 use Rattle.counts.specs.declared.CommandNumber.{CommandNumber}
 use Rattle.labelled.specs.Labelled.{on_field}
@@ -56,7 +56,7 @@ module _ (s : List ℕ) where
   pub rest_of_lem : (n : ℕ) (o : Outcome) (x : FirstRecord) (start end e : ℕ) → x ≡ rest_read s n o start end → end ≡ e → x ≡ rest_read s n o start e
   rest_of_lem n o x start end e p q = p ∙ ap (rest_read s n o start) q
 
-pub says_none : (r : RecordRead) → r ≡ Refused (refusal not_aRecord 0) → paper_record_read r ≡ refused not_aRecord 0
+pub says_none : (r : RecordRead) → r ≡ Refused (refusal not_a_record 0) → paper_record_read r ≡ refused not_a_record 0
 says_none r e = ap paper_record_read e
 
 -- what a test of both ends of a range gives

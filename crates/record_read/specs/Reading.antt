@@ -1,7 +1,7 @@
 -- What reading a record answers, field by field: where a field is not there, there is no record.
 use Rattle.std.specs.Prelude.{ℕ, ◌+◌, ◌-◌, cond, ◌&&◌, List, [], eqb, leb, length}
 use Rattle.counts.specs.Limits.{text_bytes}
-use Rattle.counts.specs.Refusals.{not_aRecord}
+use Rattle.counts.specs.Refusals.{not_a_record}
 use Rattle.counts.specs.Result.{Result, refused, done, refused_as}
 use Rattle.field.specs.Bytes.{ascii, has_at}
 use Rattle.field.specs.Part.{part}
@@ -82,8 +82,8 @@ record_at limit s at =
 -- "The reader takes one whole record and nothing beyond. Any other bytes get 7"
 unfoldable pub record_read : ℕ → List ℕ → Result Record
 record_read limit s =
-    on_record (record_at limit s 0) (refused not_aRecord 0) λ r end.
-    cond (eqb end (length s)) (done r) (refused not_aRecord 0)
+    on_record (record_at limit s 0) (refused not_a_record 0) λ r end.
+    cond (eqb end (length s)) (done r) (refused not_a_record 0)
 
 -- ---- what is read, and the paper's number and values of each answer
 

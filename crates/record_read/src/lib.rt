@@ -2,7 +2,7 @@
 #![tactic(auto)]
 ghost use Rattle.std.specs.Prelude.{◌≡◌, ◌+◌, ◌≤◌, length};
 ghost use Rattle.counts.specs.Limits.{commands};
-ghost use Rattle.counts.specs.Refusals.{not_aRecord, refusal};
+ghost use Rattle.counts.specs.Refusals.{not_a_record, refusal};
 ghost use Rattle.record_read.specs.Reading.{command_field, number_in, outcome_read, rest_read, record_at, record_read, paper_record_read, text_of};
 
 use counts::{COMMANDS, CommandNumber, NOT_A_RECORD, Refusal, TEXT_BYTES};
@@ -134,7 +134,7 @@ pub fn record_at(bytes: &[u8], at: usize) -> FirstRecord
 }
 
 fn no_record() -> RecordRead
-    ensures { result ≡ RecordRead.Refused (refusal not_aRecord 0) }
+    ensures { result ≡ RecordRead.Refused (refusal not_a_record 0) }
 {
     RecordRead::Refused(Refusal::plain(NOT_A_RECORD))
 }

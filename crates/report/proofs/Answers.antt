@@ -6,7 +6,7 @@ use mathlib.Core.List.{List}
 use borrow.Author.Tests.{le-leb, lt-leb}
 use lib.ListN.{length}
 use Rattle.counts.specs.Limits.{columns}
-use Rattle.counts.specs.Refusals.{out_of_range, not_aRecord, too_little_room}
+use Rattle.counts.specs.Refusals.{out_of_range, not_a_record, too_little_room}
 use Rattle.counts.specs.Result.{Result}
 use Rattle.counts.specs.Result.Result.{refused, done}
 use Rattle.delimited.specs.Lines.{is_delimiter}
@@ -48,7 +48,7 @@ module _ (d : ℕ) (s : List ℕ) (room : ℕ) where
     unfolding read_report
     by_judged x q = rw (sym is ∙ yes-it-is, sym judge ∙ q)
 
-    pub breaks_there : (p : ℕ) → r ≡ BreaksAt p → read_report d s room ≡ refused not_aRecord p
+    pub breaks_there : (p : ℕ) → r ≡ BreaksAt p → read_report d s room ≡ refused not_a_record p
     breaks_there p q = by_judged (BreaksAt p) q
 
     abbrev all : ℕ → ℕ → Told

@@ -1,7 +1,7 @@
 -- A report as it is read: field by field, line by line. Need not be believed: `reads_report` of the page of claims ties it to `Report` and `Breaks`.
 use Rattle.std.specs.Prelude.{ℕ, zero, suc, ◌+◌, ◌-◌, ◌*◌, Bool, true, false, cond, ◌&&◌, List, [], ◌∷◌, eqb, leb, ltb, length, get_or}
 use Rattle.counts.specs.Limits.{number_digits, columns}
-use Rattle.counts.specs.Refusals.{out_of_range, not_aRecord, too_little_room}
+use Rattle.counts.specs.Refusals.{out_of_range, not_a_record, too_little_room}
 use Rattle.counts.specs.Result.{Result}
 use Rattle.counts.specs.Result.Result.{refused, done}
 use Rattle.scan.specs.Kinds.{is_digit, is_letter}
@@ -102,7 +102,7 @@ cells_from (suc n) d s i =
 abbrev pub tell : ℕ → List ℕ → ℕ → Judged → Result Told
 tell d s room (Whole m k) =
     cond (leb (2 * (m * (k + 1))) room) (done (record { columns = m; lines = k; cells = cells_from (length s) d s 0 })) (refused too_little_room 0)
-tell d s room (BreaksAt p) = refused not_aRecord p
+tell d s room (BreaksAt p) = refused not_a_record p
 
 -- "Refusals: 11 for delimiter [..]; then 7, reading with the start of the first line that doesn't fit; then 8."
 unfoldable pub read_report : ℕ → List ℕ → ℕ → Result Told

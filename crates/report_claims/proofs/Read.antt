@@ -8,7 +8,7 @@ use native.Mathlib.Omega.{arith}
 use borrow.Author.Tests.{le-leb, lt-leb, leb-true, leb-false}
 use lib.Dec.{leb}
 use lib.ListN.{length}
-use Rattle.counts.specs.Refusals.{out_of_range, not_aRecord, too_little_room}
+use Rattle.counts.specs.Refusals.{out_of_range, not_a_record, too_little_room}
 use Rattle.counts.specs.Result.{Result, refused, done}
 use Rattle.counts.proofs.Results.{refused_not_done}
 use Rattle.delimited.specs.Lines.{is_delimiter}
@@ -29,7 +29,7 @@ module _ (d : ℕ) (s : List ℕ) (room : ℕ) where
       let e = judged_only d is s _ (taken r h) in
       rw (is, e, report_cells d is s r h, report_sized d is s r h)
 
-  broken_at : is_delimiter d ≡ true → (p : ℕ) → Breaks d s p → read_report d s room ≡ refused not_aRecord p
+  broken_at : is_delimiter d ≡ true → (p : ℕ) → Breaks d s p → read_report d s room ≡ refused not_a_record p
   unfolding read_report
   broken_at is p h = rw (is, judged_only d is s _ (broken h))
 
@@ -57,13 +57,13 @@ module _ (d : ℕ) (s : List ℕ) (room : ℕ) where
   read_report_exactly = (read_rows (is_delimiter d) refl, read_row_is)
 
   -- the place of 7 is the start of the first line that does not fit
-  pub break_exactly : (p : ℕ) → read_report d s room ≡ refused not_aRecord p ↔ ((is_delimiter d ≡ true) × Breaks d s p)
+  pub break_exactly : (p : ℕ) → read_report d s room ≡ refused not_a_record p ↔ ((is_delimiter d ≡ true) × Breaks d s p)
   break_exactly p = (λ e. to read_report_exactly.0 e, λ h. broken_at h.0 p h.1)
     where
       number : {n m q r : ℕ} → ◌≡◌ {A = Result Told} (refused n q) (refused m r) → n ≡ m
       number e = cc
 
-      to : {v : Result Told} → ReadReportRow d s room v → v ≡ refused not_aRecord p → (is_delimiter d ≡ true) × Breaks d s p
+      to : {v : Result Told} → ReadReportRow d s room v → v ≡ refused not_a_record p → (is_delimiter d ≡ true) × Breaks d s p
       to (eleven e) q = absurd (omega (arith, number q))
       to (seven {p = k} is h) q = let same : k ≡ p = cc in (is, rw same at h)
       to (eight r is h l) q = absurd (omega (arith, number q))

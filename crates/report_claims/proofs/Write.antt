@@ -8,7 +8,7 @@ use borrow.Author.Tests.{le-leb, lt-leb, leb-true, leb-false}
 use lib.Dec.{eqb, leb}
 use lib.ListN.{length}
 use Rattle.counts.specs.Limits.{columns}
-use Rattle.counts.specs.Refusals.{out_of_range, not_aRecord, too_little_room}
+use Rattle.counts.specs.Refusals.{out_of_range, not_a_record, too_little_room}
 use Rattle.counts.specs.Result.{Result, refused, done}
 use Rattle.delimited.specs.Lines.{is_delimiter, fields}
 use Rattle.report.specs.Report.{Rows, report_text}
@@ -46,13 +46,13 @@ module _ (source cells : List ℕ) (many d : ℕ) where
     written_as : may_write d many ≡ true → written source cells many d room
         ≡ cond (are_lines source many false many cells)
         (cond (leb (length (text_from d source many many cells)) room) (done (text_from d source many many cells)) (refused too_little_room 0))
-        (refused not_aRecord 0)
+        (refused not_a_record 0)
     unfolding written write_refusal
     written_as h = rw h (go (are_lines source many false many cells) (leb (length (text_from d source many many cells)) room))
       where
-        go : (a b : Bool) → let no = cond a (cond b 0 too_little_room) not_aRecord in
+        go : (a b : Bool) → let no = cond a (cond b 0 too_little_room) not_a_record in
             cond (eqb no 0) (done (text_from d source many many cells)) (refused no 0)
-            ≡ cond a (cond b (done (text_from d source many many cells)) (refused too_little_room 0)) (refused not_aRecord 0)
+            ≡ cond a (cond b (done (text_from d source many many cells)) (refused too_little_room 0)) (refused not_a_record 0)
         go true true = refl
         go true false = refl
         go false b = refl
@@ -96,7 +96,7 @@ module _ (source cells : List ℕ) (many d : ℕ) where
     by_lines : May d many → (b : Bool) → are_lines source many false many cells ≡ b
         → WriteReportRow source cells many d room
         (cond b (cond (leb (length (text_from d source many many cells)) room) (done (text_from d source many many cells)) (refused too_little_room 0))
-        (refused not_aRecord 0))
+        (refused not_a_record 0))
     by_lines m true e =
         let g = lines_rows m.some m.few e in
         rw (given_lines g.0 g.1).1 (by_room g.0 m.delimiter g.1 (leb (length (report_text d g.0)) room) refl)

@@ -1,7 +1,7 @@
 -- Document 02's rows for the calls on report files (P1): one constructor for each answer, in P1's order.
 use Rattle.std.specs.Prelude.{ℕ, ◌≤◌, ◌<◌, ◌≡◌, true, false, List, ◌∷◌, length}
 use Rattle.counts.specs.Limits.{columns}
-use Rattle.counts.specs.Refusals.{out_of_range, not_aRecord, too_little_room}
+use Rattle.counts.specs.Refusals.{out_of_range, not_a_record, too_little_room}
 use Rattle.counts.specs.Result.{Result, refused, done}
 use Rattle.delimited.specs.Lines.{is_delimiter, fields, Parts}
 use Rattle.report.specs.Report.{Rows, RowsFit, report_text, Report, Breaks, Told, told}
@@ -9,7 +9,7 @@ use Rattle.report.specs.Report.{Rows, RowsFit, report_text, Report, Breaks, Told
 -- read_report: "Refusals: 11 for delimiter [..]; then 7, reading with the start of the first line that doesn't fit (65 names too); then 8."
 pub data ReadReportRow (d : ℕ) (text : List ℕ) (room : ℕ) : Result Told → Type 0 where
   eleven : is_delimiter d ≡ false → ReadReportRow d text room (refused out_of_range 0)
-  seven : {p : ℕ} → is_delimiter d ≡ true → Breaks d text p → ReadReportRow d text room (refused not_aRecord p)
+  seven : {p : ℕ} → is_delimiter d ≡ true → Breaks d text p → ReadReportRow d text room (refused not_a_record p)
   eight : (r : Rows) → is_delimiter d ≡ true → Report d r text → room < length (told d r).cells → ReadReportRow d text room (refused too_little_room 0)
   report_read : (r : Rows) → is_delimiter d ≡ true → Report d r text → length (told d r).cells ≤ room → ReadReportRow d text room (done (told d r))
 
@@ -24,7 +24,7 @@ pub data WriteReportRow (source cells : List ℕ) (many d room : ℕ) : Result (
   eleven_delimiter : is_delimiter d ≡ false → WriteReportRow source cells many d room (refused out_of_range 0)
   eleven_columns : is_delimiter d ≡ true → (1 ≤ many → many ≤ columns → ⊥) → WriteReportRow source cells many d room (refused out_of_range 0)
   seven : is_delimiter d ≡ true → 1 ≤ many → many ≤ columns → ((r : Rows) → Given source cells many r → ⊥)
-      → WriteReportRow source cells many d room (refused not_aRecord 0)
+      → WriteReportRow source cells many d room (refused not_a_record 0)
   eight : (r : Rows) → is_delimiter d ≡ true → Given source cells many r → room < length (report_text d r)
       → WriteReportRow source cells many d room (refused too_little_room 0)
   report_written : (r : Rows) → is_delimiter d ≡ true → Given source cells many r → length (report_text d r) ≤ room

@@ -1,7 +1,7 @@
 -- What `write_report` answers and leaves (document 02, P1).
 use Rattle.std.specs.Prelude.{ℕ, ◌+◌, ◌-◌, Bool, true, false, cond, ◌&&◌, ◌||◌, List, [], ◌∷◌, ◌++◌, eqb, leb, length}
 use Rattle.counts.specs.Limits.{columns}
-use Rattle.counts.specs.Refusals.{out_of_range, not_aRecord, too_little_room}
+use Rattle.counts.specs.Refusals.{out_of_range, not_a_record, too_little_room}
 use Rattle.counts.specs.Result.{Result, refused_as}
 use Rattle.counts.specs.Result.Result.{refused, done}
 use Rattle.field.specs.Part.{part, put}
@@ -49,7 +49,7 @@ may_write d many = is_delimiter d && leb 1 many && leb many columns
 unfoldable pub write_refusal : List ℕ → List ℕ → ℕ → ℕ → ℕ → ℕ
 write_refusal source cells many d room =
     cond (may_write d many)
-    (cond (are_lines source many false many cells) (cond (leb (length (text_from d source many many cells)) room) 0 too_little_room) not_aRecord)
+    (cond (are_lines source many false many cells) (cond (leb (length (text_from d source many many cells)) room) 0 too_little_room) not_a_record)
     out_of_range
 
 -- the text, or the refusal

@@ -8,7 +8,7 @@ use borrow.Author.Tests.{leb-true}
 use lib.Dec.{leb}
 use Rattle.counts.proofs.Results.{refused_not_done}
 use Rattle.counts.specs.Limits.{class_most, code_most}
-use Rattle.counts.specs.Refusals.{not_real, not_aRecord, not_the_one, unsound, refusal}
+use Rattle.counts.specs.Refusals.{not_real, not_a_record, not_the_one, unsound, refusal}
 use Rattle.counts.specs.Result.{refused, done}
 use Rattle.counts.specs.declared.Refusal.{Refusal}
 use Rattle.laws.proofs.Choose.{and_left}
@@ -62,7 +62,7 @@ module _ (σ : State) (t c : ℕ) (a : Answer) where
   way_5 none e d = absurd (false≢true e)
   way_5 (at s) e d = rw (e, d)
 
-  way_7 : (f : Found) → names_hand σ t c f ≡ true → is_dated a ≡ true → is_outcome a.outcome ≡ false → (answer_hand σ t c a f).0 ≡ refused not_aRecord 0
+  way_7 : (f : Found) → names_hand σ t c f ≡ true → is_dated a ≡ true → is_outcome a.outcome ≡ false → (answer_hand σ t c a f).0 ≡ refused not_a_record 0
   unfolding answer_hand
   way_7 none e d o = absurd (false≢true e)
   way_7 (at s) e d o = rw (e, d, o)
@@ -89,7 +89,7 @@ module _ (b : List ℕ) (t c : ℕ) (a : Answer) where
     unfolding answering answer
     answer_5 e d = rw (sound, way_5 (abs b) t c a _ e d)
 
-    pub answer_7 : named ≡ true → is_dated a ≡ true → is_outcome a.outcome ≡ false → verdict not_aRecord ≡ only (answering b t c a)
+    pub answer_7 : named ≡ true → is_dated a ≡ true → is_outcome a.outcome ≡ false → verdict not_a_record ≡ only (answering b t c a)
     unfolding answering answer
     answer_7 e d o = rw (sound, way_7 (abs b) t c a _ e d o)
 
@@ -127,7 +127,7 @@ module _ (b : List ℕ) (t c : ℕ) (a : Answer) where
       go (at s) e d x =
           let n = passed_both (names (slot_of b s) t c) _ not_the_one 0 (abs b) d in
           let k = passed_both (is_dated a) _ not_real 0 (abs b) n.1 in
-          let o = passed_both (is_outcome a.outcome) _ not_aRecord 0 (abs b) k.1 in
+          let o = passed_both (is_outcome a.outcome) _ not_a_record 0 (abs b) k.1 in
           record { sound = x; number_held = s; hand = e; named = n.0; dated = k.0; in_range_lem = o.0 }
 
   module _ (w : Answerable) (h : ℕ) (q : h ≡ number b hand_at) where

@@ -8,7 +8,7 @@ use lib.Dec.{leb, ltb}
 use lib.ListN.{length}
 use Rattle.laws.proofs.Choose.{halves}
 use Rattle.counts.specs.Limits.{commands, programs, sessions, ticket_most}
-use Rattle.counts.specs.Refusals.{not_real, not_aRecord, too_little_room, all_taken, not_the_one, out_of_range, no_ticket_left, unsound, nothing_unanswered}
+use Rattle.counts.specs.Refusals.{not_real, not_a_record, too_little_room, all_taken, not_the_one, out_of_range, no_ticket_left, unsound, nothing_unanswered}
 use Rattle.sessions.specs.Find.{Found, none, at}
 use Rattle.sessions.specs.History.{Lent, itself, other, Call, to_make, to_place, to_take_up, to_answer, to_collect, Event, made, placed, took_up, answered, collected, written, collected_as}
 use Rattle.sessions.specs.Runs.{makes_anew, was_made, refused_with}
@@ -127,7 +127,7 @@ module _ (σ : State) where
         (λ o.
         let k = are_named (σ.slot s) t c m in
         answers (record { in_hand = e; ticket = k.0; command = k.1; real = rw (d, o) }))
-        (λ q. nothing (no_answer t c a not_aRecord 0) refl))
+        (λ q. nothing (no_answer t c a not_a_record 0) refl))
         (λ q. nothing (no_answer t c a not_real 0) refl))
         (λ q. nothing (no_answer t c a not_the_one 0) refl)
 

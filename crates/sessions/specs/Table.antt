@@ -1,7 +1,7 @@
 -- The session table as document 01 has it, with no bytes: what it holds, and what each call answers and leaves.
 use Rattle.std.specs.Prelude.{ℕ, suc, ◌+◌, ◌-◌, Bool, true, false, ◌&&◌, not, cond, List, [], ◌∷◌, ◌++◌, eqb, leb, ltb, length}
 use Rattle.counts.specs.Limits.{commands, programs, ticket_most}
-use Rattle.counts.specs.Refusals.{not_real, not_aRecord, too_little_room, all_taken, not_the_one, out_of_range, no_ticket_left, nothing_unanswered}
+use Rattle.counts.specs.Refusals.{not_real, not_a_record, too_little_room, all_taken, not_the_one, out_of_range, no_ticket_left, nothing_unanswered}
 use Rattle.counts.specs.Result.{Result, refused, done}
 use Rattle.sessions.specs.Find.{Found, none, at, find, replaced}
 use Rattle.record.specs.Record.{is_outcome}
@@ -111,7 +111,7 @@ unfoldable pub answer_hand : State → ℕ → ℕ → Answer → Found → Resu
 answer_hand σ t c a none = (refused not_the_one 0, σ)
 answer_hand σ t c a (at s) =
     cond (names (σ.slot s) t c)
-    (cond (is_dated a) (cond (is_outcome a.outcome) (done tt, after_answer σ s a) (refused not_aRecord 0, σ)) (refused not_real 0, σ))
+    (cond (is_dated a) (cond (is_outcome a.outcome) (done tt, after_answer σ s a) (refused not_a_record 0, σ)) (refused not_real 0, σ))
     (refused not_the_one 0, σ)
 
 unfoldable pub answer : State → ℕ → ℕ → Answer → Result (Unit {0}) × State

@@ -4,7 +4,7 @@ use mathlib.Core.Path.{◌≡◌, refl, sym, ◌∙◌}
 use mathlib.Core.Bool.{Bool, true, false, cond, ◌&&◌, false≢true}
 use mathlib.Core.Logic.{◌↔◌}
 use lib.Dec.{eqb}
-use Rattle.counts.specs.Refusals.{not_real, not_aRecord, not_comparable}
+use Rattle.counts.specs.Refusals.{not_real, not_a_record, not_comparable}
 use Rattle.counts.specs.Result.{Result, refused, done}
 use Rattle.counts.proofs.Results.{refused_not_done, done_same}
 use Rattle.laws.proofs.Choose.{and_left, and_right, and_both, halves}
@@ -100,9 +100,9 @@ due_exactly_now g (when name o c) (k, is, p, v) = (
 
 abbrev chosen : (real permitted comparable is : Bool) → Result Bool
 chosen real permitted comparable is =
-    cond real (cond permitted (cond comparable (done is) (refused not_comparable 0)) (refused not_aRecord 0)) (refused not_real 0)
+    cond real (cond permitted (cond comparable (done is) (refused not_comparable 0)) (refused not_a_record 0)) (refused not_real 0)
 
-refusal_is : (g : Given) (x : Start) → clause_refusal g.bytes g.value x ≡ cond (permits g x) (cond (compares g x) 0 not_comparable) not_aRecord
+refusal_is : (g : Given) (x : Start) → clause_refusal g.bytes g.value x ≡ cond (permits g x) (cond (compares g x) 0 not_comparable) not_a_record
 unfolding condition_refusal
 refusal_is g immediate = refl
 refusal_is g (at_time time) = refl
@@ -110,7 +110,7 @@ refusal_is g (at_time_on time date) = refl
 refusal_is g (when name o c) = refl
 
 module _ (g : Given) (x : Start) where
-  by_tests : (r p c : Bool) → let no = cond r (cond p (cond c 0 not_comparable) not_aRecord) not_real in
+  by_tests : (r p c : Bool) → let no = cond r (cond p (cond c 0 not_comparable) not_a_record) not_real in
       cond (eqb no 0) (done (is_due g x)) (refused no 0) ≡ chosen r p c (is_due g x)
   by_tests true true true = refl
   by_tests true true false = refl

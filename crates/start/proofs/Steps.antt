@@ -10,7 +10,7 @@ use lib.Dec.{ltb}
 use lib.IntN.{ℤ, nat_abs}
 use lib.ListN.{length}
 use Rattle.counts.specs.Limits.{number_digits}
-use Rattle.counts.specs.Refusals.{not_real, not_aRecord, not_comparable}
+use Rattle.counts.specs.Refusals.{not_real, not_a_record, not_comparable}
 use Rattle.counts.specs.Result.{refused, done}
 use Rattle.counts.proofs.Results.{first_way}
 use Rattle.laws.proofs.Choose.{halves}
@@ -89,7 +89,7 @@ kinds_decide o (operand.Text quote) present.Text s c = refl
 
 module _ (s : List ℕ) (o : Operator) (x : Operand) (p : Present) (c : List ℕ) (a b : Bool) (a-is : a ≡ constant_permitted s (paper_value x))
     (b-is : b ≡ value_permitted (present_value p c)) where
-  pub not_permitted : (a && b) ≡ false → not_aRecord ≡ condition_refusal s o (paper_value x) (present_value p c)
+  pub not_permitted : (a && b) ≡ false → not_a_record ≡ condition_refusal s o (paper_value x) (present_value p c)
   unfolding condition_refusal
   not_permitted h = rw (← a-is, ← b-is, h)
 

@@ -2,7 +2,7 @@
 use Rattle.std.specs.Prelude.{ℕ, ◌+◌, ◌*◌, ◌^◌, ◌≤◌, ◌<◌, ◌≡◌, Bool, true, false, cond, not, ◌&&◌, ◌||◌, List, ◌⊎◌, eqb, ltb, ℤ, pos, negsuc, nat_abs}
 use Rattle.std.specs.Int.Signed.{lt_z}
 use Rattle.counts.specs.Limits.{number_digits}
-use Rattle.counts.specs.Refusals.{not_real, not_aRecord, not_comparable}
+use Rattle.counts.specs.Refusals.{not_real, not_a_record, not_comparable}
 use Rattle.counts.specs.Result.{Result, refused, done, refused_as}
 use Rattle.calendar.specs.Calendar.{real_date, real_time}
 use Rattle.field.specs.Bytes.{same}
@@ -98,7 +98,7 @@ constant_of s (read.text quote) = text (text_at s quote)
 -- the refusal of a condition, and 0 for none
 unfoldable pub condition_refusal : List ℕ → Operator → read.Value → Compared → ℕ
 condition_refusal s o c v =
-    cond (constant_permitted s c && value_permitted v) (cond (comparable o v (constant_of s c)) 0 not_comparable) not_aRecord
+    cond (constant_permitted s c && value_permitted v) (cond (comparable o v (constant_of s c)) 0 not_comparable) not_a_record
 
 abbrev pub own_real : Start → Bool
 own_real immediate = true
