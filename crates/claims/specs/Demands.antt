@@ -23,7 +23,7 @@ use Rattle.grammar.specs.declared.StartClause.{StartClause}
 use Rattle.grammar.specs.declared.StartClause.TheVariants.{Required, Optional}
 use Rattle.grammar.specs.Grammar.Class.{number as no_date, date, unreal_date}
 use Rattle.grammar.specs.Statement.{Statement, Start, Operator, Number as Value}
-use Rattle.grammar.specs.Statement.Operator.{equal, not_equal, above, below, at_least, at_most}
+use Rattle.grammar.specs.Statement.Operator.{equal, not_equal as unequal, above, below, at_least, at_most}
 use Rattle.grammar.specs.Productions.{Placed, File, Begins}
 use Rattle.grammar.specs.Reading.{OffsetsRead as Reading}
 use Rattle.grammar.specs.Reading.Last.{end}
@@ -347,8 +347,8 @@ pub record Starts : Type 0 where
       × (NumberHolds equal v k → NumberHolds above v k → ⊥)
   pub at_least : (v k : Value) → NumberHolds at_least v k ↔ (NumberHolds above v k ⊎ NumberHolds equal v k)
   pub at_most : (v k : Value) → NumberHolds at_most v k ↔ (NumberHolds below v k ⊎ NumberHolds equal v k)
-  pub not_equal : (v k : Value) → NumberHolds not_equal v k ↔ (NumberHolds equal v k → ⊥)
-  pub transitive : (o : Operator) → (o ≡ not_equal → ⊥) → (a b c : Value) → NumberHolds o a b → NumberHolds o b c → NumberHolds o a c
+  pub not_equal : (v k : Value) → NumberHolds unequal v k ↔ (NumberHolds equal v k → ⊥)
+  pub transitive : (o : Operator) → (o ≡ unequal → ⊥) → (a b c : Value) → NumberHolds o a b → NumberHolds o b c → NumberHolds o a c
   -- "trailing zeros included, so 2.50 equals 2.5": as many as one likes on either side; and ten times both is as it was
   pub zeros_change_nothing : (o : Operator) (z y : ℕ) (v k : Value) → NumberHolds o (with_zeros z v) (with_zeros y k) ↔ NumberHolds o v k
   pub ten_times_both : (o : Operator) (v k : Value) → NumberHolds o (ten_times v) (ten_times k) ↔ NumberHolds o v k
