@@ -285,8 +285,8 @@ fn derived(c: &BTreeMap<String, u64>) -> Vec<(&'static str, u64)> {
 
 fn main() {
     let (header, inlines) = without_inlines(&without_comments(&fs::read_to_string("include/raddlebrush.h").unwrap()));
-    let rattle = source("raddlebrush");
-    let mut known = rattle_constants(&(source("counts") + &source("session_name") + &source("c_numbers") + &rattle));
+    let rattle = source("raddlebrush_c");
+    let mut known = rattle_constants(&(source("counts") + &source("session_name") + &source("c_numbers") + &source("raddlebrush")));
     known.extend(derived(&known).into_iter().map(|(name, value)| (name.to_string(), value)));
     let constants = header_constants(&header);
     let mut faults = 0;

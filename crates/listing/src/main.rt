@@ -1,104 +1,108 @@
 // The listing program of document 01: reads a job file from standard input and prints a line for each statement, its ordinal, keyword and
 // offset. On refusal it prints REFUSED, the number and the place. A missing start clause reads as START IMMEDIATE: it asks for P7's earlier reading.
 #![tactic(auto)]
+
+ghost use Rattle.std.specs.Prelude.{◌≤◌, length, IfOk};
+
 use counts::STATEMENTS;
 use grammar::StartClause;
-use io::{print_decimal, write_all};
 use job::{JobAnswer, StatementAnswer};
-use libc::{STDIN_FILENO, STDOUT_FILENO};
 use statement::Statement;
+use std::io;
+use std::io::Read;
 
-fn print_keyword(statement: Statement) {
+// One byte more than the longest job file: a file that fills it is too long.
+const ROOM: usize = 65536;
+
+fn print_keyword(rt: &impl Print, statement: Statement) -> io::Result<()> {
     match statement {
         Statement::Job {
             name: _,
             response: _,
-        } => {
-            write_all(STDOUT_FILENO, b"JOB");
-        }
+        } => print!(rt; "JOB"),
         Statement::Upload {
             file: _,
             source: _,
             start: _,
-        } => {
-            write_all(STDOUT_FILENO, b"UPLOAD");
-        }
+        } => print!(rt; "UPLOAD"),
         Statement::Download {
             file: _,
             source: _,
             start: _,
-        } => {
-            write_all(STDOUT_FILENO, b"DOWNLOAD");
-        }
-        Statement::GetInfo { file: _ } => {
-            write_all(STDOUT_FILENO, b"GETINFO");
-        }
-        Statement::Abort { what: _, name: _ } => {
-            write_all(STDOUT_FILENO, b"ABORT");
-        }
+        } => print!(rt; "DOWNLOAD"),
+        Statement::GetInfo { file: _ } => print!(rt; "GETINFO"),
+        Statement::Abort { what: _, name: _ } => print!(rt; "ABORT"),
     }
 }
 
 // One line: the statement is read on its own from its offset.
-fn print_statement(file: &[u8], ordinal: usize, offset: u32) {
+fn print_statement(rt: &impl Print, file: &[u8], ordinal: usize, offset: u32) -> io::Result<()> {
     let StatementAnswer::Read(read) = job::read_statement(
         file,
         StartClause::Optional,
         offset as usize,
     ) else {
-        return;
+        return Ok(());
     };
-    print_decimal(STDOUT_FILENO, ordinal as u64);
-    write_all(STDOUT_FILENO, b" ");
+    print!(rt; "{ordinal} ")?;
     let statement = read.statement;
-    print_keyword(statement);
-    write_all(STDOUT_FILENO, b" ");
-    print_decimal(STDOUT_FILENO, offset as u64);
-    write_all(STDOUT_FILENO, b"\n");
+    print_keyword(rt, statement)?;
+    println!(rt; " {offset}")
 }
 
-fn print_refusal(number: u32, place: usize) {
-    write_all(STDOUT_FILENO, b"REFUSED ");
-    print_decimal(STDOUT_FILENO, number as u64);
-    write_all(STDOUT_FILENO, b" ");
-    print_decimal(STDOUT_FILENO, place as u64);
-    write_all(STDOUT_FILENO, b"\n");
+fn print_refusal(rt: &impl Print, number: u32, place: usize) -> io::Result<()> {
+    println!(rt; "REFUSED {number} {place}")
 }
 
-fn print_statements(file: &[u8], offsets: &[u32], count: usize) {
+fn print_statements(rt: &impl Print, file: &[u8], offsets: &[u32], count: usize) -> io::Result<()> {
     let mut k = 0;
     while k < count {
         if k < offsets.len() {
-            print_statement(file, k + 1, offsets[k]);
+            print_statement(rt, file, k + 1, offsets[k])?;
         }
         k += 1;
     }
+    Ok(())
 }
 
-fn list(file: &[u8]) {
+fn list(rt: &impl Print, file: &[u8]) -> io::Result<()> {
     let mut offsets = [0u32; STATEMENTS as usize];
     match job::read_job(file, StartClause::Optional, &mut offsets) {
-        JobAnswer::Taken(count) => print_statements(file, &offsets, count),
-        JobAnswer::Refused(refusal) => print_refusal(refusal.number, refusal.place),
+        JobAnswer::Taken(count) => print_statements(rt, file, &offsets, count),
+        JobAnswer::Refused(refusal) => print_refusal(rt, refusal.number, refusal.place),
     }
 }
 
-// Reads what is left of standard input, so that who writes there is not cut off. The count keeps the loop from going on for ever.
-fn read_rest() {
-    let mut rest = io::buffer();
-    let mut left: u32 = 4294967295;
-    while 0 < left {
-        if io::read_full(STDIN_FILENO, &mut rest) == 0 {
-            return;
+// Reads until the buffer is full or the input ends. It returns how many bytes it put at the buffer's start.
+fn read_full(input: &mut impl Read, buf: &mut [u8]) -> io::Result<usize>
+    ensures { IfOk result (λ n. n ≤ length buf.new) }
+{
+    let mut done = 0;
+    for _ in 0..u64::MAX {
+        let n = input.read(&mut buf[done..])?;
+        if n == 0 {
+            break;
         }
-        left -= 1;
+        done += n;
     }
+    Ok(done)
 }
 
-fn main() {
-    // One byte more than the longest job file: a file that fills it is too long.
-    let mut file = io::large_buffer();
-    let n = io::read_full(STDIN_FILENO, &mut file);
-    read_rest();
-    list(&file[..n]);
+// Reads what is left of standard input, so that who writes there is not cut off.
+fn read_rest(input: &mut impl Read) -> io::Result<()> {
+    let mut rest = [0u8; 4096];
+    for _ in 0..u64::MAX {
+        if read_full(input, &mut rest)? == 0 {
+            break;
+        }
+    }
+    Ok(())
+}
+
+fn main(rt: HostRuntime) -> io::Result<()> {
+    let mut input = rt.reader();
+    let mut file = [0u8; ROOM];
+    let n = read_full(&mut input, &mut file)?;
+    read_rest(&mut input)?;
+    list(&rt, &file[..n])
 }

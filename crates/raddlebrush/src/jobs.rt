@@ -10,8 +10,7 @@ ghost use Rattle.c_answers.specs.Returned.{GivesCount, GivesStatement};
 use c_answers::jobs::{give_job, give_statement};
 use c_numbers::clauses::clause_given;
 
-#[unsafe(no_mangle)]
-pub extern "C" fn rb_read_job(
+pub fn rb_read_job(
     file: &[u8],
     clause_optional: bool,
     offsets: &mut [u32],
@@ -24,8 +23,7 @@ pub extern "C" fn rb_read_job(
     give_job(job::read_job(file, clause, offsets), statements)
 }
 
-#[unsafe(no_mangle)]
-pub extern "C" fn rb_read_statement_numbers(
+pub fn rb_read_statement_numbers(
     file: &[u8],
     clause_optional: bool,
     at: usize,
@@ -39,16 +37,14 @@ pub extern "C" fn rb_read_statement_numbers(
     give_statement(job::read_statement(file, clause, at), numbers, mantissa)
 }
 
-#[unsafe(no_mangle)]
-pub extern "C" fn rb_is_text_at(file: &[u8], quote: usize) -> bool
+pub fn rb_is_text_at(file: &[u8], quote: usize) -> bool
     ensures { result ≡ is_text_at file.now quote }
 {
     job::is_text_at(file, quote)
 }
 
 // The text is the bytes after the quote: what is returned is their count.
-#[unsafe(no_mangle)]
-pub extern "C" fn rb_text_length(file: &[u8], quote: usize) -> usize
+pub fn rb_text_length(file: &[u8], quote: usize) -> usize
     ensures { result ≡ length (text_at file.now quote) }
 {
     let text = job::text_at(file, quote);

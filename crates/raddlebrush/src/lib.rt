@@ -1,5 +1,6 @@
-// What a C program calls. Each call hands on to the one that it is named for and says what that says, with answers as numbers.
+// What a C program calls, by `raddlebrush_c`, which exports it. Each call hands on to the one that it is named for and says what that says, with answers as numbers.
 #![tactic(auto)]
+
 pub mod jobs;
 pub mod moments;
 pub mod names;
@@ -14,8 +15,7 @@ ghost use Rattle.c_answers.specs.Returned.{version};
 pub const VERSION: u32 = 7;
 
 // The version that a header is held against.
-#[unsafe(no_mangle)]
-pub extern "C" fn rb_version() -> u32
+pub fn rb_version() -> u32
     ensures { result ≡ version }
 {
     VERSION

@@ -2,15 +2,13 @@
 ghost use Rattle.std.specs.Prelude.{◌≡◌};
 ghost use Rattle.calendar.specs.Calendar.{real_date, real_time};
 
-#[unsafe(no_mangle)]
-pub extern "C" fn rb_is_real_date(date: u32) -> bool
+pub fn rb_is_real_date(date: u32) -> bool
     ensures { result ≡ real_date date }
 {
     calendar::is_real_date(date)
 }
 
-#[unsafe(no_mangle)]
-pub extern "C" fn rb_is_real_time(time: u32) -> bool
+pub fn rb_is_real_time(time: u32) -> bool
     ensures { result ≡ real_time time }
 {
     calendar::is_real_time(time)

@@ -11,8 +11,7 @@ use c_answers::records::{give_record, give_written};
 use c_numbers::records::outcome_given;
 use counts::CommandNumber;
 
-#[unsafe(no_mangle)]
-pub extern "C" fn rb_write_record(
+pub fn rb_write_record(
     number: u32,
     outcome: u32,
     class: u32,
@@ -34,8 +33,7 @@ pub extern "C" fn rb_write_record(
     )
 }
 
-#[unsafe(no_mangle)]
-pub extern "C" fn rb_read_record_numbers(bytes: &[u8], numbers: &mut [u64; 8]) -> u64
+pub fn rb_read_record_numbers(bytes: &[u8], numbers: &mut [u64; 8]) -> u64
     ensures { GivesNumbers record_numbers (record_read commands bytes.now) result numbers.old numbers.new }
 {
     give_record(record_read::read_record(bytes), numbers)

@@ -8,8 +8,7 @@ ghost use Rattle.c_answers.specs.Returned.{GivesCount, GivesReport};
 
 use c_answers::reports::{give_report, give_written};
 
-#[unsafe(no_mangle)]
-pub extern "C" fn rb_read_report_numbers(
+pub fn rb_read_report_numbers(
     file: &[u8],
     delimiter: u8,
     cells: &mut [usize],
@@ -23,8 +22,7 @@ pub extern "C" fn rb_read_report_numbers(
     give_report(report::read_report(file, delimiter, cells), columns, lines)
 }
 
-#[unsafe(no_mangle)]
-pub extern "C" fn rb_write_report_numbers(
+pub fn rb_write_report_numbers(
     source: &[u8],
     cells: &[usize],
     columns: usize,

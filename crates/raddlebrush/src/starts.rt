@@ -7,8 +7,7 @@ ghost use Rattle.c_answers.specs.Returned.{GivesDue};
 use c_answers::starts::give_decision;
 use c_numbers::starts::{operand_given, present_given, start_given};
 
-#[unsafe(no_mangle)]
-pub extern "C" fn rb_is_due_numbers(
+pub fn rb_is_due_numbers(
     file: &[u8],
     start_kind: u32,
     start_time: u32,

@@ -10,15 +10,13 @@ use c_answers::tables::{give_answered, give_collected, give_made, give_placed, g
 use c_numbers::records::outcome_given;
 use counts::{CommandNumber, Ticket};
 
-#[unsafe(no_mangle)]
-pub extern "C" fn rb_table_make(table: &mut [u8], max: u32) -> u64
+pub fn rb_table_make(table: &mut [u8], max: u32) -> u64
     ensures { (result ≡ returned (making table.old max)) × (table.new ≡ made_bytes table.old max) }
 {
     give_made(session_table::make(table, max))
 }
 
-#[unsafe(no_mangle)]
-pub extern "C" fn rb_table_place(
+pub fn rb_table_place(
     table: &mut [u8],
     program: u32,
     commands: u32,
@@ -36,8 +34,7 @@ pub extern "C" fn rb_table_place(
     )
 }
 
-#[unsafe(no_mangle)]
-pub extern "C" fn rb_table_take_up(
+pub fn rb_table_take_up(
     table: &mut [u8],
     number: &mut u32,
     ticket: &mut u32,
@@ -50,8 +47,7 @@ pub extern "C" fn rb_table_take_up(
     give_taken(session_table::take_up(table), number, ticket, command)
 }
 
-#[unsafe(no_mangle)]
-pub extern "C" fn rb_table_answer(
+pub fn rb_table_answer(
     table: &mut [u8],
     ticket: u32,
     command: u32,
@@ -75,8 +71,7 @@ pub extern "C" fn rb_table_answer(
     ))
 }
 
-#[unsafe(no_mangle)]
-pub extern "C" fn rb_table_collect(
+pub fn rb_table_collect(
     table: &mut [u8],
     program: u32,
     ticket: u32,
@@ -93,8 +88,7 @@ pub extern "C" fn rb_table_collect(
     )
 }
 
-#[unsafe(no_mangle)]
-pub extern "C" fn rb_is_sound(table: &[u8]) -> bool
+pub fn rb_is_sound(table: &[u8]) -> bool
     ensures { result ≡ sound_bytes table.now }
 {
     table_sound::is_sound(table)

@@ -4,12 +4,13 @@
 // documents 01 and 02 that are not proved, the traps, the places where two readers could differ, and the job files, records and reports of
 // EUROMAP 63's worked examples with their scan damage mended.
 #![tactic(auto)]
+
+ghost use Rattle.std.specs.Prelude.{◌≤◌, length, IfOk};
+
 use counts::{CommandNumber, Refusal, STATEMENTS, SessionNumber, Ticket};
 use grammar::StartClause;
-use io::{print_decimal, write_all};
 use job::{JobAnswer, StatementAnswer};
 use labelled::FieldRead;
-use libc::STDOUT_FILENO;
 use record::Outcome;
 use record_read::RecordRead;
 use report::ReportRead;
@@ -17,6 +18,11 @@ use session_table::{Answered, Collected, SessionPlaced, TakenUp};
 use sessions::Answer;
 use start::{Decision, Present};
 use statement::{Operand, Start, Statement};
+use std::env::{Env, FillError};
+use std::fs::File;
+use std::io::Read;
+use std::rt::Files;
+use std::{io, str};
 use table_layout::Table;
 
 // What an example is: by the end of its name, and a report's delimiter by its beginning.
@@ -30,127 +36,128 @@ enum Kind {
     Decision,
 }
 
-fn print_number(n: u64) {
-    write_all(STDOUT_FILENO, b" ");
-    print_decimal(STDOUT_FILENO, n);
+fn print_number(rt: &impl Print, n: u64) -> io::Result<()> {
+    print!(rt; " {n}")
 }
 
-fn print_offset(n: u32) {
-    print_number(n as u64)
+fn print_offset(rt: &impl Print, n: u32) -> io::Result<()> {
+    print_number(rt, n as u64)
 }
 
-fn print_offsets(offsets: &[u32], count: usize) {
-    write_all(STDOUT_FILENO, b" taken");
-    print_number(count as u64);
-    write_all(STDOUT_FILENO, b" at");
+fn print_offsets(rt: &impl Print, offsets: &[u32], count: usize) -> io::Result<()> {
+    print!(rt; " taken")?;
+    print_number(rt, count as u64)?;
+    print!(rt; " at")?;
     let mut k = 0;
     while k < count {
         if k < offsets.len() {
-            print_offset(offsets[k]);
+            print_offset(rt, offsets[k])?;
         }
         k += 1;
     }
+    Ok(())
 }
 
-fn print_refusal(number: u32, place: usize) {
-    write_all(STDOUT_FILENO, b" REFUSED");
-    print_number(number as u64);
-    print_number(place as u64);
+fn print_refusal(rt: &impl Print, number: u32, place: usize) -> io::Result<()> {
+    print!(rt; " REFUSED")?;
+    print_number(rt, number as u64)?;
+    print_number(rt, place as u64)
 }
 
 // Places for the offsets of every file that is taken.
 const PLACES: usize = STATEMENTS as usize;
 
 // What a file that is refused with required start clauses reads as with optional ones.
-fn run_optional(file: &[u8], required: Refusal) {
+fn run_optional(rt: &impl Print, file: &[u8], required: Refusal) -> io::Result<()> {
     let mut offsets = [0u32; PLACES];
     match job::read_job(file, StartClause::Optional, &mut offsets) {
         JobAnswer::Taken(count) => {
-            write_all(STDOUT_FILENO, b" optional");
-            print_offsets(&offsets, count);
+            print!(rt; " optional")?;
+            print_offsets(rt, &offsets, count)
         }
         JobAnswer::Refused(optional) => {
             if (optional.number != required.number) | (optional.place != required.place) {
-                write_all(STDOUT_FILENO, b" optional");
-                print_refusal(optional.number, optional.place);
+                print!(rt; " optional")?;
+                print_refusal(rt, optional.number, optional.place)?;
             }
+            Ok(())
         }
     }
 }
 
-fn run_job(file: &[u8]) {
+fn run_job(rt: &impl Print, file: &[u8]) -> io::Result<()> {
     let mut offsets = [0u32; PLACES];
     match job::read_job(file, StartClause::Required, &mut offsets) {
-        JobAnswer::Taken(count) => print_offsets(&offsets, count),
+        JobAnswer::Taken(count) => print_offsets(rt, &offsets, count),
         JobAnswer::Refused(refusal) => {
-            print_refusal(refusal.number, refusal.place);
-            run_optional(file, refusal);
+            print_refusal(rt, refusal.number, refusal.place)?;
+            run_optional(rt, file, refusal)
         }
     }
 }
 
-fn print_outcome(outcome: Outcome) {
+fn print_outcome(rt: &impl Print, outcome: Outcome) -> io::Result<()> {
     match outcome {
-        Outcome::Processed => {
-            write_all(STDOUT_FILENO, b" PROCESSED");
-        }
+        Outcome::Processed => print!(rt; " PROCESSED"),
         Outcome::Error(class, code) => {
-            write_all(STDOUT_FILENO, b" ERROR");
-            print_number(class as u64);
-            print_number(code as u64);
+            print!(rt; " ERROR")?;
+            print_number(rt, class as u64)?;
+            print_number(rt, code as u64)
         }
     }
 }
 
-fn run_record(bytes: &[u8]) {
+fn run_record(rt: &impl Print, bytes: &[u8]) -> io::Result<()> {
     match record_read::read_record(bytes) {
         RecordRead::Taken(read) => {
-            write_all(STDOUT_FILENO, b" record");
-            print_number(read.number.0 as u64);
+            print!(rt; " record")?;
+            print_number(rt, read.number.0 as u64)?;
             let outcome = read.outcome;
-            print_outcome(outcome);
-            write_all(STDOUT_FILENO, b" text");
-            print_number(record_read::record_text(bytes).len() as u64);
-            write_all(STDOUT_FILENO, b" date");
-            print_number(read.date as u64);
-            write_all(STDOUT_FILENO, b" time");
-            print_number(read.time as u64);
+            print_outcome(rt, outcome)?;
+            print!(rt; " text")?;
+            print_number(rt, record_read::record_text(bytes).len() as u64)?;
+            print!(rt; " date")?;
+            print_number(rt, read.date as u64)?;
+            print!(rt; " time")?;
+            print_number(rt, read.time as u64)
         }
-        RecordRead::Refused(refusal) => print_refusal(refusal.number, refusal.place),
+        RecordRead::Refused(refusal) => print_refusal(rt, refusal.number, refusal.place),
     }
 }
 
 // The place and the length of a field. None is empty: where the length is 0, no field was written.
-fn print_field(place: usize, length: usize) {
+fn print_field(rt: &impl Print, place: usize, length: usize) -> io::Result<()> {
     if 0 < length {
-        print_number(place as u64);
-        print_number(length as u64);
+        print_number(rt, place as u64)?;
+        print_number(rt, length as u64)?;
     }
+    Ok(())
 }
 
-fn print_fields(cells: &[usize]) {
+fn print_fields(rt: &impl Print, cells: &[usize]) -> io::Result<()> {
     let mut k = 0;
     while k + 1 < cells.len() {
-        print_field(cells[k], cells[k + 1]);
+        print_field(rt, cells[k], cells[k + 1])?;
         k += 2;
     }
+    Ok(())
 }
 
-fn print_report(cells: &[usize], columns: usize, lines: usize) {
-    write_all(STDOUT_FILENO, b" report");
-    print_number(columns as u64);
-    write_all(STDOUT_FILENO, b" columns");
-    print_number(lines as u64);
-    write_all(STDOUT_FILENO, b" lines at");
-    print_fields(cells);
+fn print_report(rt: &impl Print, cells: &[usize], columns: usize, lines: usize) -> io::Result<()> {
+    print!(rt; " report")?;
+    print_number(rt, columns as u64)?;
+    print!(rt; " columns")?;
+    print_number(rt, lines as u64)?;
+    print!(rt; " lines at")?;
+    print_fields(rt, cells)
 }
 
 // There is room for 64 fields.
-fn run_report(file: &[u8], delimiter: u8) {
+fn run_report(rt: &impl Print, file: &[u8], delimiter: u8) -> io::Result<()> {
     let mut cells = [0usize; 128];
     match report::read_report(file, delimiter, &mut cells) {
-        ReportRead::Taken(columns, lines) => print_report(&cells, columns, lines),
-        ReportRead::Refused(refusal) => print_refusal(refusal.number, refusal.place),
+        ReportRead::Taken(columns, lines) => print_report(rt, &cells, columns, lines),
+        ReportRead::Refused(refusal) => print_refusal(rt, refusal.number, refusal.place),
     }
 }
 
@@ -170,31 +177,31 @@ fn make_with_one(table: &mut [u8]) {
     session_table::place(table, 1, 1);
 }
 
-fn place(table: &mut [u8]) {
-    write_all(STDOUT_FILENO, b" place");
+fn place(rt: &impl Print, table: &mut [u8]) -> io::Result<()> {
+    print!(rt; " place")?;
     match session_table::place(table, 2, 1) {
         SessionPlaced::At(number, ticket) => {
-            print_number(number.0 as u64);
-            print_number(ticket.0 as u64);
+            print_number(rt, number.0 as u64)?;
+            print_number(rt, ticket.0 as u64)
         }
-        SessionPlaced::Refused(refusal) => print_refusal(refusal.number, refusal.place),
+        SessionPlaced::Refused(refusal) => print_refusal(rt, refusal.number, refusal.place),
     }
 }
 
-fn take_up(table: &mut [u8]) {
-    write_all(STDOUT_FILENO, b" take-up");
+fn take_up(rt: &impl Print, table: &mut [u8]) -> io::Result<()> {
+    print!(rt; " take-up")?;
     match session_table::take_up(table) {
         TakenUp::Given(number, ticket, command) => {
-            print_number(number.0 as u64);
-            print_number(ticket.0 as u64);
-            print_number(command.0 as u64);
+            print_number(rt, number.0 as u64)?;
+            print_number(rt, ticket.0 as u64)?;
+            print_number(rt, command.0 as u64)
         }
-        TakenUp::Refused(refusal) => print_refusal(refusal.number, refusal.place),
+        TakenUp::Refused(refusal) => print_refusal(rt, refusal.number, refusal.place),
     }
 }
 
-fn answer(table: &mut [u8], ticket: Ticket, date: u32) {
-    write_all(STDOUT_FILENO, b" answer");
+fn answer(rt: &impl Print, table: &mut [u8], ticket: Ticket, date: u32) -> io::Result<()> {
+    print!(rt; " answer")?;
     match session_table::answer(
         table,
         ticket,
@@ -203,39 +210,38 @@ fn answer(table: &mut [u8], ticket: Ticket, date: u32) {
         date,
         235959,
     ) {
-        Answered::Accepted => {
-            write_all(STDOUT_FILENO, b" accepted");
-        }
-        Answered::Refused(refusal) => print_refusal(refusal.number, refusal.place),
+        Answered::Accepted => print!(rt; " accepted"),
+        Answered::Refused(refusal) => print_refusal(rt, refusal.number, refusal.place),
     }
 }
 
 // A reply of one record, in the first n bytes.
-fn run_reply(reply: &[u8], n: usize) {
+fn run_reply(rt: &impl Print, reply: &[u8], n: usize) -> io::Result<()> {
     if n <= reply.len() {
-        run_record(&reply[..n]);
+        run_record(rt, &reply[..n])?;
     }
+    Ok(())
 }
 
 // More than a record without text takes.
 const REPLY_ROOM: usize = 60;
 
-fn collect(table: &mut [u8]) {
+fn collect(rt: &impl Print, table: &mut [u8]) -> io::Result<()> {
     let mut reply = [0u8; REPLY_ROOM];
-    write_all(STDOUT_FILENO, b" collect");
+    print!(rt; " collect")?;
     match session_table::collect(table, 1, Ticket(1), &mut reply) {
-        Collected::Written(n) => run_reply(&reply, n),
-        Collected::Refused(refusal) => print_refusal(refusal.number, refusal.place),
+        Collected::Written(n) => run_reply(rt, &reply, n),
+        Collected::Refused(refusal) => print_refusal(rt, refusal.number, refusal.place),
     }
 }
 
 // The command is taken up, and answered with the date of the file.
-fn run_answer(file: &[u8]) {
+fn run_answer(rt: &impl Print, file: &[u8]) -> io::Result<()> {
     let mut table = [0u8; Table::SIZE];
     make_with_one(&mut table);
     session_table::take_up(&mut table);
-    answer(&mut table, Ticket(1), date_in(file));
-    collect(&mut table);
+    answer(rt, &mut table, Ticket(1), date_in(file))?;
+    collect(rt, &mut table)
 }
 
 // Stores an answer to the command with any date, which the call does not.
@@ -254,19 +260,19 @@ fn store(table: &mut [u8], date: u32) {
 }
 
 // The table stores the date of the file; then each call is made on it.
-fn run_stored(file: &[u8]) {
+fn run_stored(rt: &impl Print, file: &[u8]) -> io::Result<()> {
     let mut table = [0u8; Table::SIZE];
     make_with_one(&mut table);
     store(&mut table, date_in(file));
     if table_sound::is_sound(&table) {
-        write_all(STDOUT_FILENO, b" sound");
+        print!(rt; " sound")?;
     } else {
-        write_all(STDOUT_FILENO, b" unsound");
+        print!(rt; " unsound")?;
     }
-    place(&mut table);
-    take_up(&mut table);
-    answer(&mut table, Ticket(2), 20240430);
-    collect(&mut table);
+    place(rt, &mut table)?;
+    take_up(rt, &mut table)?;
+    answer(rt, &mut table, Ticket(2), 20240430)?;
+    collect(rt, &mut table)
 }
 
 // ---- start clauses
@@ -325,21 +331,21 @@ fn start_of(s: Statement) -> Start {
     }
 }
 
-fn clause_at(file: &[u8], at: usize) -> Clause {
+fn clause_at(rt: &impl Print, file: &[u8], at: usize) -> io::Result<Clause> {
     match job::read_statement(file, StartClause::Required, at) {
         StatementAnswer::Read(x) => {
             let s = x.statement;
-            Clause {
+            Ok(Clause {
                 start: start_of(s),
                 next: x.next,
-            }
+            })
         }
         StatementAnswer::Refused(refusal) => {
-            print_refusal(refusal.number, refusal.place);
-            Clause {
+            print_refusal(rt, refusal.number, refusal.place)?;
+            Ok(Clause {
                 start: Start::Immediate,
                 next: at,
-            }
+            })
         }
     }
 }
@@ -379,39 +385,58 @@ fn decide(file: &[u8], clause: Start, m: Moment, value: Operand) -> Decision {
     }
 }
 
-fn print_decision(d: Decision) {
+fn print_decision(rt: &impl Print, d: Decision) -> io::Result<()> {
     match d {
-        Decision::Due => {
-            write_all(STDOUT_FILENO, b" due");
-        }
-        Decision::NotDue => {
-            write_all(STDOUT_FILENO, b" not due");
-        }
-        Decision::Refused(refusal) => print_refusal(refusal.number, refusal.place),
+        Decision::Due => print!(rt; " due"),
+        Decision::NotDue => print!(rt; " not due"),
+        Decision::Refused(refusal) => print_refusal(rt, refusal.number, refusal.place),
     }
 }
 
 // After the moment two statements: the constant of the first one's condition is the present value, and the clause of the second is decided.
-fn run_decision(file: &[u8]) {
-    let first = clause_at(file, 34);
-    let second = clause_at(file, first.next);
+fn run_decision(rt: &impl Print, file: &[u8]) -> io::Result<()> {
+    let first = clause_at(rt, file, 34)?;
+    let second = clause_at(rt, file, first.next)?;
     let value = first.start;
     let clause = second.start;
-    print_decision(decide(file, clause, moment_in(file), constant_of(value)));
+    print_decision(
+        rt,
+        decide(file, clause, moment_in(file), constant_of(value)),
+    )
 }
 
-fn run_file(fd: i32, kind: Kind) {
-    let mut file = io::large_buffer();
-    let n = io::read_full(fd, &mut file);
-    match kind {
-        Kind::Job => run_job(&file[..n]),
-        Kind::Record => run_record(&file[..n]),
-        Kind::Report(delimiter) => run_report(&file[..n], delimiter),
-        Kind::Answer => run_answer(&file[..n]),
-        Kind::Stored => run_stored(&file[..n]),
-        Kind::Decision => run_decision(&file[..n]),
+// ---- files
+
+// Reads until the buffer is full or the input ends. It returns how many bytes it put at the buffer's start.
+fn read_full(input: &mut impl Read, buf: &mut [u8]) -> io::Result<usize>
+    ensures { IfOk result (λ n. n ≤ length buf.new) }
+{
+    let mut done = 0;
+    for _ in 0..u64::MAX {
+        let n = input.read(&mut buf[done..])?;
+        if n == 0 {
+            break;
+        }
+        done += n;
     }
-    write_all(STDOUT_FILENO, b"\n");
+    Ok(done)
+}
+
+// One byte more than the longest job file.
+const ROOM: usize = 65536;
+
+fn run_file(rt: &impl Print, input: &mut impl Read, kind: Kind) -> io::Result<()> {
+    let mut file = [0u8; ROOM];
+    let n = read_full(input, &mut file)?;
+    match kind {
+        Kind::Job => run_job(rt, &file[..n])?,
+        Kind::Record => run_record(rt, &file[..n])?,
+        Kind::Report(delimiter) => run_report(rt, &file[..n], delimiter)?,
+        Kind::Answer => run_answer(rt, &file[..n])?,
+        Kind::Stored => run_stored(rt, &file[..n])?,
+        Kind::Decision => run_decision(rt, &file[..n])?,
+    }
+    println!(rt)
 }
 
 // Whether a file's name ends with these four bytes.
@@ -458,25 +483,33 @@ fn kind_of(name: &[u8]) -> Kind {
     Kind::Job
 }
 
-// The example that argument i names.
-fn run(i: usize) {
+// The example that argument i names. It returns whether there is such an argument. A path that is too long names no file.
+fn run<R: Print + Eprint + Files + Env>(rt: &R, i: usize) -> io::Result<bool> {
     let mut path = [0u8; 64];
-    let n = os::arg(i, &mut path);
-    let fd = os::open_read(&path[..n]);
-    if fd < 0 {
-        os::fail(&path[..n]);
-        return;
+    let n = match rt.arg(i, &mut path) {
+        Ok(n) => n,
+        Err(FillError::NotPresent) => return Ok(false),
+        Err(FillError::TooLong) => 0,
+    };
+    let Ok(name) = str::from_utf8(&path[..n]) else {
+        eprintln!(rt; "argument {i} is not text")?;
+        return Ok(true);
+    };
+    match File::open(rt, name) {
+        Ok(mut input) => {
+            print!(rt; "{name}")?;
+            run_file(rt, &mut input, kind_of(name.as_bytes()))?;
+        }
+        Err(e) => eprintln!(rt; "{name}: {e}")?,
     }
-    write_all(STDOUT_FILENO, &path[..n]);
-    run_file(fd, kind_of(&path[..n]));
-    libc::close(fd);
+    Ok(true)
 }
 
-fn main() {
-    let count = os::arg_count();
-    let mut i = 1;
-    while i < count {
-        run(i);
-        i += 1;
+fn main(rt: HostRuntime) -> io::Result<()> {
+    for i in 1..usize::MAX {
+        if !run(&rt, i)? {
+            break;
+        }
     }
+    Ok(())
 }
