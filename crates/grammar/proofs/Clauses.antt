@@ -19,8 +19,6 @@ use Rattle.grammar.specs.Grammar.Class.{UPLOAD, DOWNLOAD, string, semicolon}
 use Rattle.grammar.specs.Grammar.Point.{between, statement, move_file, move_start, done, dead}
 use Rattle.grammar.specs.Statement as read
 use Rattle.grammar.specs.Productions.{Placed, Is, Source, classes, File, Legal, Begins}
-use Rattle.grammar.specs.Productions.Other.{upload, download}
-use Rattle.grammar.specs.Productions.File.{file}
 use Rattle.grammar.specs.Reading.{State, Last, opening, move, moves, read as reading}
 use Rattle.grammar.specs.Reading.State.{on, refused_at}
 use Rattle.grammar.specs.Reading.Last.{end}

@@ -3,6 +3,7 @@
 
 // Whether an UPLOAD or DOWNLOAD must have a start clause, as the caller asks. Required: a missing one is refused. Optional: it reads as START IMMEDIATE.
 #![tactic(auto)]
+
 #[derive(Clone, Copy)]
 pub enum StartClause {
     Required,

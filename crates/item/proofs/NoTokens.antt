@@ -11,7 +11,7 @@ use lib.ListN.{length, get_or}
 use Rattle.counts.specs.Limits.{word_bytes}
 use Rattle.field.specs.Bytes.{has_at, ascii}
 use Rattle.scan.specs.Kinds.{is_digit, is_letter, is_word_byte, is_numeric_byte}
-use Rattle.scan.specs.Run.{run, run_end}
+use Rattle.scan.specs.Run.{run_end}
 use Rattle.word.specs.Word.{which_word, word_read}
 use Rattle.word.specs.declared.WordRead.TheVariants.{Is, NoWord}
 use Rattle.word.specs.declared.Word.TheVariants.{TimeGe}

@@ -1,5 +1,6 @@
 // A signed number with a scale, from the bytes of a number.
 #![tactic(auto)]
+
 ghost use Rattle.std.specs.Prelude.{◌≡◌, ◌+◌, ◌^◌, ◌≤◌, ◌<◌, length};
 ghost use Rattle.field.specs.Part.{part};
 ghost use Rattle.decimal.specs.Digits.{value};

@@ -1,5 +1,6 @@
 // Response records read: at a place of longer bytes, and as the whole of bytes.
 #![tactic(auto)]
+
 ghost use Rattle.std.specs.Prelude.{◌≡◌, ◌+◌, ◌≤◌, length};
 ghost use Rattle.counts.specs.Limits.{commands};
 ghost use Rattle.counts.specs.Refusals.{not_a_record, refusal};

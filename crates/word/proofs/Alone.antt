@@ -20,7 +20,6 @@ use Rattle.scan.proofs.Runs.{run_fits, run_passes, run_whole}
 use Rattle.word.specs.Word.{Spelling, which_of, reserved, which_word, word_read}
 use Rattle.word.specs.declared.Word.{Word}
 use Rattle.word.specs.declared.Word.TheVariants.{Name, TimeGe}
-use Rattle.word.specs.declared.WordRead.{WordRead}
 use Rattle.word.specs.declared.WordRead.TheVariants.{Is, NoWord}
 
 -- ---- runs of a part

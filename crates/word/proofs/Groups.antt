@@ -1,5 +1,5 @@
 -- P11: a bracket group is found exactly where its bytes stand.
-use Prim.Native.Nat.{ℕ, suc, ◌+◌, ◌-◌, ◌≤◌, ◌<◌}
+use Prim.Native.Nat.{ℕ, ◌+◌, ◌-◌, ◌≤◌, ◌<◌}
 use mathlib.Core.Path.{◌≡◌, refl, sym, ◌∙◌, ap}
 use mathlib.Core.Bool.{Bool, true, false, cond, ◌&&◌}
 use mathlib.Core.List.{List, [], ◌∷◌, ◌++◌, Memᴰ, append_assoc}
@@ -12,15 +12,13 @@ use lib.ListN.{length, get_or, take, drop, length-take, length-append}
 use lib.Seq.{drop-cons}
 use Rattle.counts.specs.Limits.{index_digits}
 use Rattle.laws.proofs.Choose.{and_left, and_right}
-use Rattle.field.specs.Bytes.{ascii}
 use Rattle.field.specs.Part.{part}
 use Rattle.field.proofs.Parts.{head_at, rest_is, is_part}
 use Rattle.scan.specs.Kinds.{is_digit}
 use Rattle.scan.specs.Run.{run, run_end}
-use Rattle.scan.proofs.Runs.{in_range_lem, run_fits, run_passes, run_none, run_whole, run_inside}
+use Rattle.scan.proofs.Runs.{in_range_lem, run_fits, run_passes, run_none, run_whole}
 use Rattle.word.specs.Word.{is_index, closed_index, group_read}
 use Rattle.word.specs.Names.{Index, Group, one, two}
-use Rattle.word.specs.declared.GroupRead.{GroupRead}
 use Rattle.word.specs.declared.GroupRead.TheVariants.{After, NoGroup}
 
 none≢after : {e : ℕ} → NoGroup ≡ After e → ⊥

@@ -1,6 +1,5 @@
 -- `item::next_item` meets its contract: an arm for each token.
 use native.Mathlib.Omega.{arith}
-use borrow.Author.Rules.{rules}
 use Rattle.token.proofs.Ahead.{lies, number_inside, time_inside}
 use Rattle.item.specs.Items.{numbered}
 use Rattle.item.proofs.Standing.{stood}

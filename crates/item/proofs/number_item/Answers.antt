@@ -2,7 +2,6 @@
 use Rattle.item.proofs.Classes.{field_fits, other_length, not_bare, a_date, no_date}
 use native.Mathlib.Omega.{arith}
 use mathlib.Core.Path.{sym, ◌∙◌}
-use borrow.Author.Rules.{rules}
 use Rattle.item.proofs.number_item.Goals as goal
 
 pub returns-in_default : goal.returns-in_default

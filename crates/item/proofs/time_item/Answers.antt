@@ -1,7 +1,6 @@
 -- `item::time_item` meets its contract.
 use Rattle.item.proofs.Classes.{timed}
 use mathlib.Core.Path.{sym, ◌∙◌}
-use borrow.Author.Rules.{rules}
 use Rattle.item.proofs.time_item.Goals as goal
 
 pub returns-then-is_real_time : goal.returns-then-is_real_time

@@ -3,7 +3,6 @@ use Rattle.item.proofs.Classes.{field_fits}
 use Rattle.item.specs.Tokens.{value_of}
 use native.Mathlib.Omega.{arith}
 use mathlib.Core.Path.{sym, ◌∙◌, ap}
-use borrow.Author.Rules.{rules}
 use Rattle.item.proofs.two_at.Goals as goal
 
 pub returns-in_default : goal.returns-in_default

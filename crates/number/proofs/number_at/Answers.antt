@@ -2,7 +2,6 @@
 use Rattle.number.proofs.Digits.{is_number}
 use mir.ValLaws.{to_z-of_z}
 use mir.Syntax.{w64}
-use borrow.Author.Rules.{rules}
 use Rattle.number.proofs.number_at.Goals as goal
 
 pub returns : goal.returns

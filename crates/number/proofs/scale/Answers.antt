@@ -1,7 +1,3 @@
-use Prim.Native.Nat.{◌+◌, ◌-◌, ◌≤◌}
-use mathlib.Core.Path.{◌≡◌}
-use Rattle.field.specs.Part.{part}
-use Rattle.number.specs.Number.{scale_of}
 use Rattle.number.proofs.Digits.{reading}
 use Rattle.number.proofs.scale.Goals as goal
 

@@ -3,7 +3,6 @@ use Prim.Native.Nat.{◌+◌, ◌-◌, ◌≤◌}
 use mathlib.Core.Path.{◌≡◌}
 use Rattle.field.specs.Part.{part}
 use Rattle.number.specs.Number.{scale_of}
-use Rattle.number.proofs.Digits.{reading}
 use Rattle.number.proofs.scale.Given as goal
 
 abbrev pub invariant-loop-i : goal.invariant-loop-i

@@ -1,7 +1,6 @@
 -- `record::in_range` meets its contract.
 use Rattle.laws.proofs.Choose.{choose}
 use Rattle.record.specs.Record.{is_text, in_range}
-use borrow.Author.Rules.{rules}
 use Rattle.record.proofs.in_range.Goals as goal
 
 pub returns : goal.returns

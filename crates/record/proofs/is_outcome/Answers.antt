@@ -1,5 +1,4 @@
 -- `record::is_outcome` meets its contract.
-use borrow.Author.Rules.{rules}
 use Rattle.record.proofs.is_outcome.Goals as goal
 
 pub returns-in-Error : goal.returns-in-Error

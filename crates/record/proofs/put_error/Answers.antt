@@ -1,6 +1,5 @@
 -- `record::put_error` meets its contract.
 use Rattle.record.proofs.Writes.{wrote_error}
-use borrow.Author.Rules.{rules}
 use Rattle.record.proofs.put_error.Goals as goal
 
 pub returns : goal.returns

@@ -1,7 +1,6 @@
 -- `record::put_outcome` meets its contract.
 use Rattle.record.proofs.Lengths.{error_room}
 use Rattle.record.proofs.Writes.{error_range}
-use borrow.Author.Rules.{rules}
 use Rattle.record.proofs.put_outcome.Goals as goal
 
 pub put_bytes-requires : goal.put_bytes-requires

@@ -5,7 +5,6 @@ use Rattle.decimal.proofs.PlainLaws.{plain_fits}
 use Rattle.moment.proofs.Moments.{length_moment}
 use Rattle.record.proofs.Lengths.{ten_digits}
 use Rattle.record.proofs.Writes.{ranges, room_of, wrote_fields}
-use borrow.Author.Rules.{rules}
 use Rattle.record.proofs.put_record.Goals as goal
 
 pub put_after-after_number-requires : goal.put_after-after_number-requires

@@ -1,7 +1,6 @@
 -- `record::record_length` meets its contract.
 use native.Mathlib.Omega.{arith}
 use Rattle.record.proofs.Lengths.{fixed_le, ten_digits}
-use borrow.Author.Rules.{rules}
 use Rattle.record.proofs.record_length.Goals as goal
 
 pub overflow_add-result : goal.overflow_add-result

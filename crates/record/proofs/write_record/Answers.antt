@@ -3,7 +3,6 @@ use mathlib.Core.Path.{sym, ◌∙◌}
 use Rattle.counts.specs.Limits.{commands}
 use Rattle.record.specs.Record.{content}
 use Rattle.record.proofs.Writes.{not_refused, wrote_record, refused_record}
-use borrow.Author.Rules.{rules}
 use Rattle.record.proofs.write_record.Goals as goal
 
 pub put_record-requires : goal.put_record-requires

@@ -3,7 +3,6 @@ use mathlib.Core.Path.{sym, ◌∙◌}
 use Rattle.counts.specs.Limits.{commands}
 use Rattle.record.specs.Writing.{write_refusal}
 use Rattle.record.proofs.Writes.{ranges, short_text, writes}
-use borrow.Author.Rules.{rules}
 use Rattle.record.proofs.write_refusal.Goals as goal
 
 pub record_length-requires : goal.record_length-requires

@@ -1,7 +1,6 @@
 -- `record_read::outcome_at` meets its contract.
 use Rattle.record_read.proofs.Rules.{reads}
 use Rattle.record_read.specs.Reading.{error_read, outcome_read}
-use borrow.Author.Rules.{rules}
 use Rattle.record_read.proofs.outcome_at.Goals as goal
 
 pub returns-then-has_at : goal.returns-then-has_at

@@ -1,7 +1,6 @@
 -- `record_read::read_record` meets its contract.
 use Rattle.record_read.specs.Reading.{record_read}
 use Rattle.record_read.proofs.Rules.{reads}
-use borrow.Author.Rules.{rules}
 use Rattle.record_read.proofs.read_record.Goals as goal
 
 pub returns-in_default : goal.returns-in_default

@@ -3,7 +3,6 @@ use native.Mathlib.Omega.{arith}
 use Rattle.record.proofs.Lengths.{ten_digits}
 use Rattle.record_read.specs.Reading.{record_at}
 use Rattle.record_read.proofs.Rules.{reads}
-use borrow.Author.Rules.{rules}
 use Rattle.record_read.proofs.record_at.Goals as goal
 
 pub returns-in_default : goal.returns-in_default

@@ -1,7 +1,6 @@
 -- `record_read::record_text` meets its contract.
 use native.Mathlib.Omega.{arith}
 use Rattle.record_read.proofs.Shown.{no_text, the_text, text_inside}
-use borrow.Author.Rules.{rules}
 use Rattle.record_read.proofs.record_text.Goals as goal
 
 pub returns-in_default : goal.returns-in_default

@@ -3,7 +3,6 @@ use native.Mathlib.Omega.{arith}
 use Rattle.moment.proofs.Moments.{moment_room}
 use Rattle.record_read.specs.Reading.{rest_read}
 use Rattle.record_read.proofs.Rules.{reads}
-use borrow.Author.Rules.{rules}
 use Rattle.record_read.proofs.rest_at.Goals as goal
 
 pub returns-in_default : goal.returns-in_default

@@ -1,6 +1,5 @@
 -- `is_framed` meets its contract: one test in the code, the same test in the word.
 use Rattle.session_name.proofs.Says.{names}
-use borrow.Author.Rules.{rules}
 use Rattle.session_name.proofs.is_framed.Goals as goal
 
 pub returns : goal.returns

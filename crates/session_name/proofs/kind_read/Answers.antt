@@ -1,7 +1,6 @@
 -- `kind_read` meets its contract: the comparison that led to each return picks the case.
 use Rattle.session_name.proofs.Says.{names}
 use Rattle.session_name.specs.Name.{kind_read}
-use borrow.Author.Rules.{rules}
 use Rattle.session_name.proofs.kind_read.Goals as goal
 
 pub returns-then-has_at : goal.returns-then-has_at

@@ -1,7 +1,6 @@
 -- `number_read` meets its contract: what the digits were picks the case.
 use Rattle.session_name.proofs.Says.{names}
 use Rattle.session_name.specs.Name.{number_read}
-use borrow.Author.Rules.{rules}
 use Rattle.session_name.proofs.number_read.Goals as goal
 
 pub returns-in_default : goal.returns-in_default

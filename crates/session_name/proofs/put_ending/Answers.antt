@@ -1,5 +1,4 @@
 -- `put_ending` meets its contract, by the two kinds.
-use borrow.Author.Rules.{rules}
 use Rattle.session_name.proofs.put_ending.Goals as goal
 
 pub returns-in-Request : goal.returns-in-Request

@@ -3,7 +3,6 @@ use native.Mathlib.Omega.{arith}
 use Rattle.field.proofs.Put.{then, wrote_length}
 use Rattle.decimal.proofs.Laws.{length_digits}
 use Rattle.session_name.specs.Name.{name_of}
-use borrow.Author.Rules.{rules}
 use Rattle.session_name.proofs.put_name.Goals as goal
 
 pub put_ending-requires : goal.put_ending-requires

@@ -1,7 +1,6 @@
 -- `read_name` meets its contract: its callees read the parts of the name in the order of the word.
 use Rattle.session_name.proofs.Says.{names}
 use Rattle.session_name.specs.Name.{name_read}
-use borrow.Author.Rules.{rules}
 use Rattle.session_name.proofs.read_name.Goals as goal
 
 pub returns-then-is_framed : goal.returns-then-is_framed

@@ -1,7 +1,6 @@
 -- `write_name` meets its contract: the refusal, or the write.
 use mathlib.Core.Path.{sym, ◌∙◌}
 use Rattle.session_name.proofs.Writing.{not_refused, wrote_name, refused_name}
-use borrow.Author.Rules.{rules}
 use Rattle.session_name.proofs.write_name.Goals as goal
 
 pub put_name-requires : goal.put_name-requires

@@ -1,7 +1,6 @@
 -- `write_refusal` meets its contract: the tests that led to each return pick the case.
 use Rattle.session_name.proofs.Says.{names}
 use Rattle.session_name.specs.Name.{write_refusal}
-use borrow.Author.Rules.{rules}
 use Rattle.session_name.proofs.write_refusal.Goals as goal
 
 pub returns-then-room-lt-NAME_BYTES : goal.returns-then-room-lt-NAME_BYTES

@@ -1,7 +1,6 @@
 -- `token::is_number` meets its contract.
 use Rattle.laws.proofs.Choose.{choose}
 use Rattle.token.specs.Token.{is_number_at}
-use borrow.Author.Rules.{rules}
 use Rattle.token.proofs.is_number.Goals as goal
 
 pub returns-then-m-e : goal.returns-then-m-e

@@ -3,7 +3,6 @@ use lib.ListN.{get_or-eq_default}
 use borrow.Author.Tests.{eq-eqb, ne_eqb}
 use Rattle.laws.proofs.Choose.{choose}
 use Rattle.token.specs.Token.{is_text_at}
-use borrow.Author.Rules.{rules}
 use Rattle.token.proofs.is_text.Goals as goal
 
 pub returns-then-s-i-eq34 : goal.returns-then-s-i-eq34

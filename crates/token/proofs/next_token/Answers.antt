@@ -1,7 +1,6 @@
 -- `token::next_token` meets its contract.
 use Rattle.laws.proofs.Choose.{choose}
 use Rattle.token.specs.Token.{next_token}
-use borrow.Author.Rules.{rules}
 use Rattle.token.proofs.next_token.Goals as goal
 
 pub returns : goal.returns

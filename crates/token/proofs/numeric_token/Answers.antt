@@ -1,7 +1,6 @@
 -- `token::numeric_token` meets its contract.
 use Rattle.laws.proofs.Choose.{choose}
 use Rattle.token.specs.Token.{numeric_at}
-use borrow.Author.Rules.{rules}
 use Rattle.token.proofs.numeric_token.Goals as goal
 
 pub returns-then-digit_at : goal.returns-then-digit_at

@@ -1,6 +1,5 @@
 -- `token::one_sign` meets its contract.
 use Rattle.laws.proofs.Choose.{choose}
-use borrow.Author.Rules.{rules}
 use Rattle.token.proofs.one_sign.Goals as goal
 
 pub returns-then-b-eq59 : goal.returns-then-b-eq59

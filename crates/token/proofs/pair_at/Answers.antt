@@ -1,6 +1,5 @@
 -- `token::pair_at` meets its contract.
 use Rattle.laws.proofs.Choose.{choose}
-use borrow.Author.Rules.{rules}
 use Rattle.token.proofs.pair_at.Goals as goal
 
 pub returns : goal.returns

@@ -1,7 +1,6 @@
 -- `token::shaped_token` meets its contract.
 use Rattle.laws.proofs.Choose.{choose}
 use Rattle.token.specs.Token.{shaped_at}
-use borrow.Author.Rules.{rules}
 use Rattle.token.proofs.shaped_token.Goals as goal
 
 pub returns-then-is_time : goal.returns-then-is_time

@@ -1,6 +1,5 @@
 -- `token::sign_before_equal` meets its contract.
 use Rattle.laws.proofs.Choose.{choose}
-use borrow.Author.Rules.{rules}
 use Rattle.token.proofs.sign_before_equal.Goals as goal
 
 pub returns-then-b-eq33 : goal.returns-then-b-eq33

@@ -1,7 +1,6 @@
 -- `token::sign_token` meets its contract.
 use Rattle.laws.proofs.Choose.{choose}
 use Rattle.token.specs.Token.{sign_at}
-use borrow.Author.Rules.{rules}
 use Rattle.token.proofs.sign_token.Goals as goal
 
 pub returns-then-byte_at-eq61 : goal.returns-then-byte_at-eq61

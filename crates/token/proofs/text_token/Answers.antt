@@ -1,5 +1,4 @@
 -- `token::text_token` meets its contract.
-use borrow.Author.Rules.{rules}
 use Rattle.token.proofs.Strings.{string}
 use Rattle.token.proofs.text_token.Goals as goal
 

@@ -1,7 +1,6 @@
 -- `token::token_at` meets its contract.
 use Rattle.laws.proofs.Choose.{choose}
 use Rattle.token.specs.Token.{token_at}
-use borrow.Author.Rules.{rules}
 use Rattle.token.proofs.token_at.Goals as goal
 
 pub returns-then-is_letter : goal.returns-then-is_letter

@@ -1,6 +1,5 @@
 -- `token::word_token` meets its contract.
 use mathlib.Core.Path.{ap, sym, ◌∙◌}
-use borrow.Author.Rules.{rules}
 use Rattle.token.specs.Token.{word_token}
 use Rattle.token.proofs.word_token.Goals as goal
 

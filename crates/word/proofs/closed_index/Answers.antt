@@ -1,5 +1,4 @@
 -- `word::closed_index` meets its contract.
-use borrow.Author.Rules.{rules}
 use Rattle.word.specs.Word.{closed_index}
 use Rattle.word.proofs.closed_index.Goals as goal
 

@@ -1,5 +1,4 @@
 -- `word::group_at` meets its contract: a byte that is a comma stands within the bytes.
-use borrow.Author.Rules.{rules}
 use Rattle.word.specs.Word.{group_read}
 use Rattle.word.proofs.Groups.{inside}
 use Rattle.word.proofs.group_at.Goals as goal

@@ -1,6 +1,5 @@
 -- `word::indexed_name` meets its contract.
 use mathlib.Core.Path.{sym, ◌∙◌, ap}
-use borrow.Author.Rules.{rules}
 use borrow.Author.Tests.{lt-ltb, le-ltb}
 use Rattle.word.specs.Word.{indexed}
 use Rattle.word.proofs.indexed_name.Goals as goal

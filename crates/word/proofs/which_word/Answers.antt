@@ -1,5 +1,4 @@
 -- `word::which_word` meets its contract: of a known length, few reserved words are left.
-use borrow.Author.Rules.{rules}
 use borrow.Author.Tests.{ne_eqb}
 use Rattle.word.specs.Word.{which_word}
 use Rattle.word.proofs.which_word.Goals as goal

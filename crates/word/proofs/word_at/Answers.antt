@@ -1,6 +1,5 @@
 -- `word::word_at` meets its contract.
 use mathlib.Core.Path.{sym, ◌∙◌}
-use borrow.Author.Rules.{rules}
 use borrow.Author.Tests.{lt-ltb, le-ltb}
 use Rattle.laws.proofs.Choose.{choose}
 use Rattle.word.specs.Word.{word_read}

@@ -1,5 +1,4 @@
 -- `word::word_or` meets its contract.
-use borrow.Author.Rules.{rules}
 use Rattle.laws.proofs.Choose.{choose}
 use Rattle.word.proofs.word_or.Goals as goal
 
