@@ -1,6 +1,7 @@
 // An answer as a C program gets it: what is returned, 0 or the refusal, and what is left in the numbers lent for the rest of it, which a
 // refusal leaves as it was.
 #![tactic(auto)]
+
 pub mod jobs;
 pub mod names;
 pub mod records;

@@ -1,6 +1,6 @@
 -- The fields of a statement as numbers, in the order that the header gives. A string is the place of its opening quote, a name has a place
 -- and a length, and a field that is not there is 0.
-use Rattle.std.specs.Prelude.{ℕ, List, [], ◌∷◌, pos}
+use Rattle.std.specs.Prelude.{ℕ, [], ◌∷◌, pos}
 use Rattle.token.specs.declared.Operator.{Operator}
 use Rattle.token.specs.declared.Operator.TheVariants.{Equal, NotEqual, Above, Below, AtLeast, AtMost}
 use Rattle.statement.specs.declared.Part.{Part}

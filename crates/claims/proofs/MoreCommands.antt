@@ -1,6 +1,6 @@
 -- The lengths of full replies, what older readers take, and tables in the old size.
 use Prim.Native.Nat.{ℕ, zero, suc, ◌+◌, ◌-◌, ◌≤◌}
-use mathlib.Core.Path.{◌≡◌, refl, sym, ap, ◌∙◌}
+use mathlib.Core.Path.{◌≡◌, refl, sym, ◌∙◌}
 use mathlib.Core.Bool.{true, false}
 use mathlib.Core.List.{List, [], ◌∷◌}
 use native.Mathlib.Omega.{arith}
@@ -8,15 +8,14 @@ use borrow.Author.Tests.{ne_eqb, le-leb}
 use lib.ListN.{length, length-append}
 use Rattle.laws.proofs.Choose.{and_both}
 use Rattle.counts.specs.Limits.{commands, sessions}
-use Rattle.counts.specs.Refusals.{too_little_room, unsound}
-use Rattle.counts.specs.Result.{Result, refused, done}
+use Rattle.counts.specs.Refusals.{too_little_room}
+use Rattle.counts.specs.Result.{Result, refused}
 use Rattle.counts.proofs.Results.{refused_not_done}
 use Rattle.decimal.specs.Digits.{width_from, plain_width}
 use Rattle.record.specs.Record.{content, record_bytes}
 use Rattle.record.specs.declared.Outcome.TheVariants.{Error}
 use Rattle.record.proofs.Lengths.{length_record, fixed_le}
 use Rattle.record_read.proofs.Older.{never_misreads, older_agrees, older_refuses, older_refuses_too}
-use Rattle.sessions.specs.Find.{at}
 use Rattle.sessions.specs.Table.{Session, numbered, records, reply}
 use Rattle.sessions.specs.declared.Answer.{Answer}
 use Rattle.sessions.proofs.Parts.{SlotSound, open_slot, session}

@@ -23,7 +23,6 @@ use Rattle.statement.specs.declared.Statement.TheVariants.{Job, GetInfo}
 use Rattle.job.specs.Job.{read_job, filled}
 use Rattle.job.specs.Statement.{placed as placed_at, read_statement}
 use Rattle.job_claims.proofs.Claims.{only}
-use Rattle.sessions.specs.Table.{place}
 use Rattle.claims.specs.Demands.{Reader, Reads}
 use Rattle.claims.specs.StandIns.{ReaderRefuses, OneReading, MakesUpCount, StatementReader, ReadsStatements, StatementRefuses, OneStatement}
 use Rattle.claims.proofs.Demand1Statements.{read_statement_exactly}

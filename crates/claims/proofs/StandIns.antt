@@ -10,7 +10,6 @@ use Rattle.calendar.specs.Calendar.{february_length, month_length, real_date, re
 use Rattle.counts.specs.Result.{Result, done}
 use Rattle.counts.proofs.Results.{refused_not_done, done_same}
 use Rattle.decimal.specs.Digits.{digits, width_from, plain_width, plain}
-use Rattle.scan.specs.Run.{run}
 use Rattle.moment.specs.Moment.{real_moment, moment_bytes}
 use Rattle.record.specs.Record.{record_bytes}
 use Rattle.record.specs.declared.Outcome.TheVariants.{Processed}

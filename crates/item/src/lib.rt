@@ -1,5 +1,6 @@
 // The next token of a job file with its class: what the grammar sees of it, as a struct of numbers.
 #![tactic(auto)]
+
 ghost use Rattle.std.specs.Prelude.{◌≡◌, ◌+◌, ◌-◌, ◌≤◌, ◌<◌, length};
 ghost use Rattle.counts.specs.Limits.{file_bytes};
 ghost use Rattle.grammar.specs.Grammar.{class_no};

@@ -4,7 +4,6 @@ use mathlib.Core.Path.{◌≡◌, refl, sym, ◌∙◌, ap}
 use mathlib.Core.List.{List, []}
 use native.Mathlib.Omega.{arith}
 use borrow.Author.Tests.{le-leb, lt-leb}
-use lib.Dec.{leb}
 use lib.ListN.{length, take}
 use lib.Seq.{length-take-le, paste}
 use Rattle.counts.specs.Refusals.{too_few_places}
@@ -14,7 +13,6 @@ use Rattle.counts.specs.declared.Refusal.{Refusal}
 use Rattle.grammar.specs.declared.StartClause.{StartClause}
 use Rattle.grammar.specs.Reading.{OffsetsRead}
 use Rattle.job.specs.Loop.{after, on_step, rest_of, Block, answered, entered}
-use Rattle.job.specs.declared.Step.{Step}
 use Rattle.job.specs.declared.Step.TheVariants.{Over, RefusedAt, On}
 use Rattle.job.specs.declared.StatementsFound.{StatementsFound}
 use Rattle.job.proofs.Offsets.{answered_after, taken_fits, refused_stays, none_stay, entered_after}

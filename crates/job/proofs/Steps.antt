@@ -7,7 +7,7 @@ use native.Mathlib.Omega.{arith}
 use borrow.Author.Tests.{eqb-false, ltb-false, ne_eqb}
 use lib.Dec.{eqb, ltb}
 use Rattle.counts.specs.Limits.{statements}
-use Rattle.counts.specs.Refusals.{unexpected, too_many_statements, refusal}
+use Rattle.counts.specs.Refusals.{unexpected, too_many_statements}
 use Rattle.grammar.specs.declared.StartClause.{StartClause}
 use Rattle.grammar.specs.Grammar.{class_no}
 use Rattle.grammar.specs.Grammar.Class.{JOB}

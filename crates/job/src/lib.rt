@@ -1,5 +1,6 @@
 // Job files: the whole file with its offsets, one statement from its offset, and the text of a quoted string.
 #![tactic(auto)]
+
 ghost use Rattle.std.specs.Prelude.{◌≡◌, ◌+◌, ◌≤◌, length};
 ghost use Rattle.std.proofs.Math.Seq.{paste};
 ghost use Rattle.counts.specs.Limits.{file_bytes, statements};

@@ -1,6 +1,6 @@
 -- The cells of a report are told in order, and there are as many as its columns and lines say; so their number is small.
 use Prim.Native.Nat.{ℕ, zero, suc, ◌+◌, ◌-◌, ◌*◌, ◌≤◌, ◌<◌}
-use mathlib.Core.Path.{◌≡◌, refl, sym, ◌∙◌, ap}
+use mathlib.Core.Path.{◌≡◌, refl, ◌∙◌, ap}
 use mathlib.Core.Bool.{Bool, true, false, cond}
 use mathlib.Core.List.{List, [], ◌∷◌, ◌++◌}
 use native.Mathlib.Nat.{mul-le-mul_right}
@@ -11,7 +11,7 @@ use Rattle.scan.specs.Kinds.{is_letter}
 use Rattle.delimited.specs.Lines.{is_delimiter, separator, others, line, lines, places_of, cells_of, Each, none, and}
 use Rattle.delimited.proofs.Found.{at_field, at_line}
 use Rattle.delimited.proofs.Lines.{line_some, line_long, each_so, length_cells, lines_long}
-use Rattle.report.specs.Report.{NameLine, ValueLine, Rows, Report}
+use Rattle.report.specs.Report.{ValueLine, Rows, Report}
 use Rattle.report.specs.Reading.{name_at, value_at, field_at, cell_at, cells_from, judged}
 use Rattle.report.specs.declared.FieldRead.TheVariants.{End, NoField}
 use Rattle.report.specs.declared.Judged.{Judged}

@@ -1,5 +1,5 @@
 -- A name or a value is found in a file exactly where its bytes stand and a byte follows that goes on with neither.
-use Prim.Native.Nat.{ℕ, suc, ◌+◌, ◌-◌, ◌≤◌, ◌<◌}
+use Prim.Native.Nat.{ℕ, ◌+◌, ◌-◌, ◌≤◌, ◌<◌}
 use mathlib.Core.Path.{◌≡◌, refl, sym, ◌∙◌, ap}
 use mathlib.Core.Bool.{Bool, true, false, false≢true, cond}
 use mathlib.Core.List.{List, [], ◌∷◌, ◌++◌, append_assoc}
@@ -28,7 +28,6 @@ use Rattle.delimited.specs.Lines.{is_delimiter}
 use Rattle.delimited.proofs.Lines.{of_four}
 use Rattle.report.specs.Report.{Name, Value, number, string}
 use Rattle.report.specs.Reading.{name_of, name_at, figures_at, numeral_at, string_end, value_at, field_at, cell_at}
-use Rattle.report.specs.declared.FieldRead.{FieldRead}
 use Rattle.report.specs.declared.FieldRead.TheVariants.{End, NoField}
 use Rattle.report.proofs.Numbers.{no_field≢end, numeral_found, numeral_stands}
 

@@ -1,7 +1,7 @@
 -- A line is found exactly where its bytes stand.
 use Prim.Native.Nat.{ℕ, zero, suc, ◌+◌, ◌-◌, ◌≤◌, ◌<◌}
 use mathlib.Core.Path.{◌≡◌, refl, sym, ◌∙◌, ap}
-use mathlib.Core.Bool.{Bool, true, false}
+use mathlib.Core.Bool.{Bool, true}
 use mathlib.Core.List.{List, [], ◌∷◌, ◌++◌, append_assoc}
 use native.Mathlib.Omega.{arith}
 use lib.ListN.{length, get_or, drop, length-append, length-drop}
@@ -14,10 +14,9 @@ use Rattle.delimited.specs.declared.Separator.{Separator}
 use Rattle.delimited.specs.declared.Separator.TheVariants as after
 use Rattle.delimited.proofs.Lines.{line_last, line_more, line_some}
 use Rattle.delimited.proofs.Found.{at_field, at_line, IsField, IsLine, found_field, found_line}
-use Rattle.report.specs.Reading.{field_at, on_field, fields_from, line_at}
+use Rattle.report.specs.Reading.{field_at, on_field, fields_from}
 use Rattle.report.specs.declared.FieldRead.{FieldRead}
 use Rattle.report.specs.declared.FieldRead.TheVariants.{End, NoField}
-use Rattle.report.specs.declared.LineRead.{LineRead}
 use Rattle.report.specs.declared.LineRead.TheVariants.{Fields, NoLine}
 use Rattle.report.proofs.Fields.{Stops, end_stops, delimiter_stops, Found, Field, field_found, field_stands}
 

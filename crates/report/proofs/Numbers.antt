@@ -13,7 +13,7 @@ use Rattle.counts.specs.Limits.{number_digits}
 use Rattle.field.specs.Part.{part}
 use Rattle.field.proofs.Parts.{head_at, rest_is}
 use Rattle.decimal.specs.Digits.{all_digits}
-use Rattle.number.specs.Number.{unsigned, spelled, Numeral}
+use Rattle.number.specs.Number.{unsigned, Numeral}
 use Rattle.scan.specs.Kinds.{is_digit}
 use Rattle.scan.specs.Run.{run, run_end}
 use Rattle.scan.proofs.Runs.{run_whole, run_stop, run_past, run_inside}
@@ -22,7 +22,6 @@ use Rattle.token.proofs.Ahead.{in_range_lem}
 use Rattle.item.proofs.NumberTokens.{Some, whole_number, pointed_number, signed_number}
 use Rattle.item.proofs.NumeralTokens.{digit_each, first_digit, no_minus}
 use Rattle.report.specs.Reading.{figures_at, numeral_at}
-use Rattle.report.specs.declared.FieldRead.{FieldRead}
 use Rattle.report.specs.declared.FieldRead.TheVariants.{End, NoField}
 
 pub no_field≢end : {e : ℕ} → NoField ≡ End e → ⊥

@@ -1,17 +1,17 @@
 -- A report is judged exactly as its lines stand: it is taken where the text is the report of some rows, and else breaks at the first line that does not fit.
-use Prim.Native.Nat.{ℕ, zero, suc, ◌+◌, ◌*◌, ◌≤◌, ◌<◌}
+use Prim.Native.Nat.{ℕ, zero, suc, ◌+◌, ◌≤◌, ◌<◌}
 use mathlib.Core.Path.{◌≡◌, refl, sym, ◌∙◌, ap}
 use mathlib.Core.Bool.{Bool, true, false, cond}
 use mathlib.Core.List.{List, [], ◌∷◌, ◌++◌, append_assoc, append-nil}
 use native.Mathlib.Omega.{arith}
-use borrow.Author.Tests.{ltb-true, ltb-false, lt-ltb, le-ltb, leb-true, leb-false, le-leb, eqb-true, eqb-false, eq-eqb, ne_eqb}
+use borrow.Author.Tests.{ltb-true, ltb-false, lt-ltb, le-ltb, leb-true, leb-false, le-leb, eqb-true, eqb-false, eq-eqb}
 use lib.Dec.{eqb, leb, ltb}
 use lib.ListN.{length, drop, length-append, length-drop, drop_of_length-le}
 use Rattle.counts.specs.Limits.{columns}
 use Rattle.field.proofs.Parts.{rest_is}
 use Rattle.delimited.specs.Lines.{is_delimiter, line, lines, Each, none, and}
 use Rattle.delimited.proofs.Lines.{line_some}
-use Rattle.report.specs.Report.{Name, Value, NameLine, ValueLine, Rows, RowsFit, report_text, Report, Breaks, at_names, at_line}
+use Rattle.report.specs.Report.{NameLine, ValueLine, Rows, RowsFit, report_text, Report, Breaks, at_names, at_line}
 use Rattle.report.specs.Reading.{line_at, on_line, lines_from, judged}
 use Rattle.report.specs.declared.LineRead.{LineRead}
 use Rattle.report.specs.declared.LineRead.TheVariants.{Fields, NoLine}

@@ -1,6 +1,6 @@
 -- Report files (document 02, P1): "a first line of names, then none or more lines of as many values, separated by the list delimiter, no spaces, and ended by
 -- CR LF".
-use Rattle.std.specs.Prelude.{ℕ, ◌≤◌, ◌≡◌, Bool, true, false, List, [], ◌∷◌, ◌++◌, length, get_or}
+use Rattle.std.specs.Prelude.{ℕ, ◌≤◌, ◌≡◌, Bool, true, List, [], ◌∷◌, ◌++◌, length, get_or}
 use Rattle.counts.specs.Limits.{columns}
 use Rattle.scan.specs.Kinds.{is_letter}
 use Rattle.word.specs.Word.{word_read}

@@ -1,6 +1,7 @@
 // Report files: a line of names, and lines of as many values. A report is judged in one pass and its cells are filled in a second, so that a
 // refusal changes nothing that is lent.
 #![tactic(auto)]
+
 ghost use Rattle.std.specs.Prelude.{◌≡◌, true, suc, ◌≤◌, ◌<◌, length, get_or};
 ghost use Rattle.field.specs.Part.{put};
 ghost use Rattle.delimited.specs.Lines.{is_delimiter};

@@ -1,21 +1,20 @@
 -- A report is read exactly as its rows say: the rows of `read_report`, and that a text is the report of one list of rows.
-use Prim.Native.Nat.{ℕ, ◌+◌, ◌*◌, ◌≤◌, ◌<◌}
-use mathlib.Core.Path.{◌≡◌, refl, sym, ◌∙◌, ap}
+use Prim.Native.Nat.{ℕ}
+use mathlib.Core.Path.{◌≡◌, refl, sym, ◌∙◌}
 use mathlib.Core.Bool.{Bool, true, false, cond}
-use mathlib.Core.List.{List, [], ◌∷◌, ◌++◌}
+use mathlib.Core.List.{List}
 use mathlib.Core.Logic.{◌↔◌}
 use native.Mathlib.Omega.{arith}
 use borrow.Author.Tests.{le-leb, lt-leb, leb-true, leb-false}
 use lib.Dec.{leb}
 use lib.ListN.{length}
-use Rattle.counts.specs.Refusals.{out_of_range, not_a_record, too_little_room}
+use Rattle.counts.specs.Refusals.{not_a_record, too_little_room}
 use Rattle.counts.specs.Result.{Result, refused, done}
 use Rattle.counts.proofs.Results.{refused_not_done}
 use Rattle.delimited.specs.Lines.{is_delimiter}
 use Rattle.report.specs.Report.{Rows, Report, Breaks, Told, told}
-use Rattle.report.specs.Reading.{judged, cells_from, tell, read_report}
+use Rattle.report.specs.Reading.{read_report}
 use Rattle.report.specs.declared.Judged.{Judged}
-use Rattle.report.specs.declared.Judged.TheVariants.{Whole, BreaksAt}
 use Rattle.report.proofs.Reports.{Judgement, taken, broken, judged_so, judged_only}
 use Rattle.report.proofs.Cells.{report_cells, report_sized}
 use Rattle.report_claims.specs.Rows.{ReadReportRow, eleven, seven, eight, report_read}

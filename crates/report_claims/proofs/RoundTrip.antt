@@ -7,19 +7,18 @@ use mathlib.Core.Logic.{◌↔◌}
 use native.Mathlib.Omega.{arith}
 use lib.ListN.{length, take, drop, length-append, length-drop}
 use lib.Seq.{take_at, drop_at}
-use Rattle.counts.specs.Result.{Result, refused, done}
+use Rattle.counts.specs.Result.{Result, done}
 use Rattle.counts.proofs.Results.{refused_not_done}
 use Rattle.field.specs.Part.{part}
 use Rattle.field.proofs.Parts.{part_is, rest_is}
 use Rattle.delimited.specs.Lines.{is_delimiter, others, line, lines, places_of, cells_of, fields, Each, none, and, Parts, no_more, part_and}
 use Rattle.delimited.proofs.Lines.{line_some, each_so}
-use Rattle.report.specs.Report.{Rows, RowsFit, report_text, Report, Told, told}
-use Rattle.report.specs.Reading.{judged, read_report}
-use Rattle.report.specs.declared.Judged.TheVariants.{Whole}
+use Rattle.report.specs.Report.{Rows, report_text, Report, Told, told}
+use Rattle.report.specs.Reading.{read_report}
 use Rattle.report.proofs.Reports.{taken, judged_only}
 use Rattle.report.proofs.Cells.{report_cells}
 use Rattle.report_write.specs.Writing.{written}
-use Rattle.report_claims.specs.Rows.{Given, ReadAs, ReadReportRow, eleven, seven, eight, report_read, WriteReportRow, report_written}
+use Rattle.report_claims.specs.Rows.{Given, ReadAs, ReadReportRow, eleven, seven, eight, report_read, report_written}
 use Rattle.report_claims.proofs.Read.{read_report_exactly}
 use Rattle.report_claims.proofs.Write.{write_report_exactly}
 

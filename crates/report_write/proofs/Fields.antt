@@ -1,8 +1,8 @@
 -- Bytes are tested to be one name or one value exactly where they are one.
 use Prim.Native.Nat.{ℕ, ◌+◌, ◌-◌, ◌≤◌}
-use mathlib.Core.Path.{◌≡◌, refl, sym, ◌∙◌, ap, subst}
+use mathlib.Core.Path.{◌≡◌, refl, sym, subst}
 use mathlib.Core.Bool.{Bool, true, false, false≢true}
-use mathlib.Core.List.{List, [], ◌++◌, append-nil}
+use mathlib.Core.List.{List, [], append-nil}
 use native.Mathlib.Omega.{arith}
 use borrow.Author.Tests.{eqb-true, eq-eqb, leb-true, le-leb}
 use lib.Dec.{eqb, leb}
@@ -13,7 +13,7 @@ use Rattle.field.proofs.Parts.{part_all}
 use Rattle.report.specs.Reading.{field_at, on_field}
 use Rattle.report.specs.declared.FieldRead.{FieldRead}
 use Rattle.report.specs.declared.FieldRead.TheVariants.{End, NoField}
-use Rattle.report.proofs.Fields.{Stops, nothing_stops, Field, field_found, field_stands}
+use Rattle.report.proofs.Fields.{nothing_stops, Field, field_found, field_stands}
 use Rattle.report_write.specs.Writing.{is_field, is_cell}
 
 module _ (values : Bool) (x : List ℕ) where

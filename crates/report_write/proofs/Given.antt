@@ -1,15 +1,15 @@
 -- The cells are whole lines exactly where they are the fields of rows that fit, and their text is the report of these rows.
 use Prim.Native.Nat.{ℕ, ◌+◌, ◌-◌, ◌≤◌, ◌<◌}
 use mathlib.Core.Path.{◌≡◌, refl, sym, ◌∙◌, ap}
-use mathlib.Core.Bool.{Bool, true, false, false≢true, cond, ◌&&◌, ◌||◌}
+use mathlib.Core.Bool.{Bool, true, false, false≢true, cond, ◌||◌}
 use mathlib.Core.List.{List, [], ◌∷◌, ◌++◌, append_assoc}
 use native.Mathlib.Omega.{arith}
 use borrow.Author.Tests.{eqb-true, eqb-false, eq-eqb, ne_eqb}
 use lib.Dec.{eqb}
 use lib.ListN.{length}
-use Rattle.laws.proofs.Choose.{and_left, and_right, and_both}
+use Rattle.laws.proofs.Choose.{and_left, and_right}
 use Rattle.field.specs.Part.{part}
-use Rattle.delimited.specs.Lines.{separator, line, lines, fields, Each, none, and, Parts, no_more, part_and}
+use Rattle.delimited.specs.Lines.{line, lines, fields, Each, none, and, Parts, no_more, part_and}
 use Rattle.delimited.proofs.Lines.{line_last, line_more}
 use Rattle.report.specs.Report.{ValueLine}
 use Rattle.report.proofs.Fields.{Field}

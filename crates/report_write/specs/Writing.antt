@@ -1,5 +1,5 @@
 -- What `write_report` answers and leaves (document 02, P1).
-use Rattle.std.specs.Prelude.{ℕ, ◌+◌, ◌-◌, Bool, true, false, cond, ◌&&◌, ◌||◌, List, [], ◌∷◌, ◌++◌, eqb, leb, length}
+use Rattle.std.specs.Prelude.{ℕ, ◌+◌, ◌-◌, Bool, false, cond, ◌&&◌, ◌||◌, List, [], ◌∷◌, ◌++◌, eqb, leb, length}
 use Rattle.counts.specs.Limits.{columns}
 use Rattle.counts.specs.Refusals.{out_of_range, not_a_record, too_little_room}
 use Rattle.counts.specs.Result.{Result, refused_as}

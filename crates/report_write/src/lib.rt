@@ -1,5 +1,6 @@
 // Report files written: names and values are given as parts of a source, by place and length, in order, as the reader tells them.
 #![tactic(auto)]
+
 ghost use Rattle.std.specs.Prelude.{◌≡◌, true, false, cond, ◌++◌, ◌+◌, ◌≤◌, eqb, leb, length};
 ghost use Rattle.counts.specs.Result.{counted};
 ghost use Rattle.field.specs.Part.{part, Wrote};

@@ -1,6 +1,7 @@
 // Whether a start clause is due: by the present date and time, the date on which its command was taken up, and the parameter's present value. Nothing is
 // kept from one call to the next.
 #![tactic(auto)]
+
 ghost use Rattle.std.specs.Prelude.{◌≡◌, true, List, [], ℕ, ◌*◌, ◌^◌, ◌<◌, ltb, nat_abs};
 ghost use Rattle.field.specs.Bytes.{same};
 ghost use Rattle.item.specs.Tokens.{paper_number, paper_operator};

@@ -1,5 +1,6 @@
 // The statements of a job file: one function to a point of the grammar, each from the place where its first token is looked for.
 #![tactic(auto)]
+
 ghost use Rattle.std.specs.Prelude.{◌≡◌};
 ghost use Rattle.item.specs.Items.{Seen};
 ghost use Rattle.grammar.specs.Grammar.Point.{ending, job_name, job_response, job_file, move_file, move_source, move_start, start_kind, start_time, start_date, start_operator, start_value, info_file, abort_kind, abort_name};

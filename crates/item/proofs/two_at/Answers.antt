@@ -13,6 +13,6 @@ overflow_cast-result c = omega (arith, field_fits 2 _ _ _ c.digits_at.ensures c.
 
 pub returns : goal.returns
 returns c = (
-      ap value_of (sym (sym c.digits_at.ensures ∙ c.in-Value.is)),
-      omega (arith, field_fits 2 _ _ _ c.digits_at.ensures c.in-Value.is),
-    )
+  ap value_of (sym (sym c.digits_at.ensures ∙ c.in-Value.is)),
+  omega (arith, field_fits 2 _ _ _ c.digits_at.ensures c.in-Value.is),
+)

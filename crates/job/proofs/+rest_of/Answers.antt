@@ -1,9 +1,7 @@
-use Prim.Native.Nat.{ℕ, ◌+◌, ◌-◌, ◌≤◌, ◌<◌}
+use Prim.Native.Nat.{◌+◌, ◌≤◌}
 use mathlib.Core.Path.{◌≡◌, ap}
 use native.Mathlib.Omega.{arith}
 use lib.ListN.{length}
-use borrow.Author.Rules.{rules}
-use Rattle.counts.specs.Limits.{statements}
 use Rattle.job.specs.Job.{paper_job}
 use Rattle.job.proofs.Rest.{over_taken, over_crowded, broken, room_left, on_taken, on_refused}
 use Rattle.job.proofs.+rest_of.Goals as goal

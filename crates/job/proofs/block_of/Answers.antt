@@ -1,10 +1,7 @@
-use Prim.Native.Nat.{◌+◌, ◌-◌, ◌≤◌}
+use Prim.Native.Nat.{◌+◌}
 use mathlib.Core.Path.{◌≡◌, refl}
 use native.Mathlib.Omega.{arith}
-use lib.ListN.{length, take, length-set}
-use borrow.Author.Rules.{rules}
-use Rattle.counts.specs.Limits.{statements}
-use Rattle.job.specs.Loop.{after, rest_of}
+use lib.ListN.{length-set}
 use Rattle.job.proofs.Offsets.{after_none}
 use Rattle.job.proofs.Loops.{all_read, refused_there, room, in_file, again, over≢on, refused≢on}
 use Rattle.job.proofs.block_of.Goals as goal
@@ -23,11 +20,11 @@ overflow_cast-places c = omega (arith, in_file _ _ _ _ _ _ _ c.loop-count.invari
 
 pub loop-count-preserved : goal.loop-count-preserved
 loop-count-preserved c = (
-      again _ _ _ _ _ _ _ c.loop-count.invariant.0 c.loop-count.invariant.1 (omega arith) _ c.next_item-t.ensures.is _ c.step_of.ensures _ c.in-On.is,
-      omega (arith, room _ _ _ _ _ _ _ c.loop-count.invariant.0 c.loop-count.invariant.1 (omega arith) _ c.next_item-t.ensures.is _ c.step_of.ensures _ c.in-On.is),
-      rw length-set c.loop-count.invariant.2,
-      omega arith,
-    )
+  again _ _ _ _ _ _ _ c.loop-count.invariant.0 c.loop-count.invariant.1 (omega arith) _ c.next_item-t.ensures.is _ c.step_of.ensures _ c.in-On.is,
+  omega (arith, room _ _ _ _ _ _ _ c.loop-count.invariant.0 c.loop-count.invariant.1 (omega arith) _ c.next_item-t.ensures.is _ c.step_of.ensures _ c.in-On.is),
+  rw length-set c.loop-count.invariant.2,
+  omega arith,
+)
 
 pub returns : goal.returns
 returns c = (c.loop-count.invariant.0, omega arith, omega arith, λ n e. omega arith)

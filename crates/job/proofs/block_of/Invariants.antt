@@ -1,13 +1,9 @@
 -- `job::block_of` meets its contract.
 use Prim.Native.Nat.{◌+◌, ◌-◌, ◌≤◌}
-use mathlib.Core.Path.{◌≡◌, refl}
-use native.Mathlib.Omega.{arith}
-use lib.ListN.{length, take, length-set}
-use borrow.Author.Rules.{rules}
+use mathlib.Core.Path.{◌≡◌}
+use lib.ListN.{length, take}
 use Rattle.counts.specs.Limits.{statements}
 use Rattle.job.specs.Loop.{after, rest_of}
-use Rattle.job.proofs.Offsets.{after_none}
-use Rattle.job.proofs.Loops.{all_read, refused_there, room, in_file, again, over≢on, refused≢on}
 use Rattle.job.proofs.block_of.Given as goal
 
 abbrev pub invariant-loop-count : goal.invariant-loop-count

@@ -1,10 +1,8 @@
-use Prim.Native.Nat.{◌-◌, ◌≤◌}
 use mathlib.Core.Path.{◌≡◌, refl}
 use native.Mathlib.Omega.{arith}
 use native.Mathlib.Numerals.{add-one}
-use lib.ListN.{length, length-set}
-use lib.Seq.{paste, paste-zero, paste-suc}
-use borrow.Author.Rules.{rules}
+use lib.ListN.{length-set}
+use lib.Seq.{paste-zero, paste-suc}
 use Rattle.job.proofs.fill.Goals as goal
 
 pub loop-k-init : goal.loop-k-init

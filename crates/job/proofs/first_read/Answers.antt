@@ -1,6 +1,5 @@
 -- `job::first_read` meets its contract.
 use mathlib.Core.Path.{◌∙◌, ap}
-use borrow.Author.Rules.{rules}
 use Rattle.job.specs.Loop.{step_read}
 use Rattle.job.proofs.Steps.{first_is_job, first_is_other}
 use Rattle.job.proofs.first_read.Goals as goal

@@ -1,5 +1,4 @@
 -- `job::placed` meets its contract.
-use borrow.Author.Rules.{rules}
 use Rattle.job.proofs.placed.Goals as goal
 
 pub returns-in-Is : goal.returns-in-Is

@@ -3,7 +3,6 @@ use Prim.Native.Nat.{◌<◌}
 use mathlib.Core.Path.{◌≡◌, ap}
 use native.Mathlib.Omega.{arith}
 use lib.ListN.{length}
-use borrow.Author.Rules.{rules}
 use Rattle.job.specs.Job.{paper_job}
 use Rattle.job.proofs.Answers.{too_long, refused_first, first_in_file, room_for_first, taken_first, refused_later}
 use Rattle.job.proofs.read_job.Goals as goal
@@ -14,10 +13,10 @@ returns-then-file-gt-FILE_BYTES c = let a = c.args in
 
 pub overflow_cast-offsets : goal.overflow_cast-offsets
 overflow_cast-offsets c = omega (
-      arith,
-      first_in_file c.args.clause c.args.file.now c.args.offsets.now c.if-file-gt-FILE_BYTES.false _ c.next_item-t.ensures.is _
-          c.first_read.ensures _ _ c.in-Is.is,
-    )
+  arith,
+  first_in_file c.args.clause c.args.file.now c.args.offsets.now c.if-file-gt-FILE_BYTES.false _ c.next_item-t.ensures.is _
+      c.first_read.ensures _ _ c.in-Is.is,
+)
 
 pub bounds-offsets-0 : goal.bounds-offsets-0
 bounds-offsets-0 c = let later = c.rest_of-later in

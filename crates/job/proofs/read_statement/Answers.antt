@@ -7,7 +7,6 @@ use lib.ListN.{length, take, drop, length-drop}
 use lib.Seq.{take_all}
 use Rattle.job.specs.Statement.{read_statement}
 use borrow.Author.Tests.{le-leb, lt-leb}
-use borrow.Author.Rules.{rules}
 use Rattle.job.proofs.read_statement.Goals as goal
 
 -- the part from at on is the list without its first at elements

@@ -1,5 +1,4 @@
 -- `job::statement_in` meets its contract.
-use borrow.Author.Rules.{rules}
 use Rattle.job.proofs.statement_in.Goals as goal
 
 pub returns : goal.returns

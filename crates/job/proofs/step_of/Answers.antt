@@ -1,6 +1,5 @@
 -- `job::step_of` meets its contract.
 use native.Mathlib.Omega.{arith}
-use borrow.Author.Rules.{rules}
 use Rattle.laws.proofs.Choose.{choose}
 use Rattle.job.proofs.Steps.{later}
 use Rattle.job.proofs.step_of.Goals as goal

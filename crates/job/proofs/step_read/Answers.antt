@@ -1,5 +1,4 @@
 -- `job::step_read` meets its contract.
-use borrow.Author.Rules.{rules}
 use Rattle.job.proofs.step_read.Goals as goal
 
 pub returns-in-Is : goal.returns-in-Is

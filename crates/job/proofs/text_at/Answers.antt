@@ -3,7 +3,6 @@ use Rattle.token.proofs.Ahead.{text_inside}
 use Rattle.token.specs.Token.{content_at}
 use native.Mathlib.Omega.{arith}
 use mathlib.Core.Path.{sym, ◌∙◌}
-use borrow.Author.Rules.{rules}
 use Rattle.job.proofs.text_at.Goals as goal
 
 pub overflow_add-start : goal.overflow_add-start

@@ -1,5 +1,4 @@
 use Rattle.report.proofs.Stood.{field}
-use borrow.Author.Rules.{rules}
 use Rattle.report.proofs.cell_at.Goals as goal
 
 pub returns-then-is_letter : goal.returns-then-is_letter

@@ -1,5 +1,4 @@
 use Rattle.laws.proofs.Choose.{choose}
-use borrow.Author.Rules.{rules}
 use Rattle.report.specs.Reading.{field_at}
 use Rattle.report.proofs.field_at.Goals as goal
 

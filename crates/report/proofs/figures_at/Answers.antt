@@ -1,6 +1,5 @@
 -- `report::figures_at` meets its contract.
 use Rattle.report.proofs.Stood.{field}
-use borrow.Author.Rules.{rules}
 use Rattle.report.proofs.figures_at.Goals as goal
 
 pub returns-then-whole-d : goal.returns-then-whole-d

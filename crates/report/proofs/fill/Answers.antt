@@ -1,9 +1,6 @@
-use Prim.Native.Nat.{◌-◌}
 use native.Mathlib.Omega.{arith}
-use borrow.Author.Rules.{rules}
-use lib.ListN.{length, length-set}
-use Rattle.report.specs.Reading.{cells_from}
-use Rattle.report.proofs.Loops.{CellsLeft, cells_start, cells_length, cells_over, no_cell, cell_ahead, cell_fits, cell_ahead_field, cell_ahead_line, cell_then_field, cell_then_line, cell_last}
+use lib.ListN.{length-set}
+use Rattle.report.proofs.Loops.{cells_start, cells_length, cells_over, no_cell, cell_ahead, cell_fits, cell_ahead_field, cell_ahead_line, cell_then_field, cell_then_line, cell_last}
 use Rattle.report.proofs.fill.Goals as goal
 
 pub loop-at-init : goal.loop-at-init
@@ -18,64 +15,64 @@ returns-in_default c = no_cell _ _ _ _ _ _ _ c.loop-at.invariant c.loop-at-test.
 
 pub offset_bounds-cells-k : goal.offset_bounds-cells-k
 offset_bounds-cells-k c = omega (
-      arith,
-      cells_length c.loop-at.invariant,
-      cell_fits _ _ _ _ _ _ _
-          c.loop-at.invariant c.loop-at-test.true _
-          c.cell_at.ensures _ c.in-End.is c.requires,
-    )
+  arith,
+  cells_length c.loop-at.invariant,
+  cell_fits _ _ _ _ _ _ _
+      c.loop-at.invariant c.loop-at-test.true _
+      c.cell_at.ensures _ c.in-End.is c.requires,
+)
 
 pub bounds-cells-k : goal.bounds-cells-k
 bounds-cells-k c = omega (
-      arith,
-      cells_length c.loop-at.invariant,
-      cell_fits _ _ _ _ _ _ _
-          c.loop-at.invariant c.loop-at-test.true _
-          c.cell_at.ensures _ c.in-End.is c.requires,
-    )
+  arith,
+  cells_length c.loop-at.invariant,
+  cell_fits _ _ _ _ _ _ _
+      c.loop-at.invariant c.loop-at-test.true _
+      c.cell_at.ensures _ c.in-End.is c.requires,
+)
 
 pub overflow_sub-cells : goal.overflow_sub-cells
 overflow_sub-cells c = omega (
-      arith,
-      cell_ahead _ _ _ _ _ _ _ c.loop-at.invariant
-          c.loop-at-test.true _ c.cell_at.ensures _ c.in-End.is,
-    )
+  arith,
+  cell_ahead _ _ _ _ _ _ _ c.loop-at.invariant
+      c.loop-at-test.true _ c.cell_at.ensures _ c.in-End.is,
+)
 
 pub overflow_add-cells : goal.overflow_add-cells
 overflow_add-cells c = omega (
-      arith,
-      cells_length c.loop-at.invariant,
-      cell_fits _ _ _ _ _ _ _
-          c.loop-at.invariant c.loop-at-test.true _
-          c.cell_at.ensures _ c.in-End.is c.requires,
-    )
+  arith,
+  cells_length c.loop-at.invariant,
+  cell_fits _ _ _ _ _ _ _
+      c.loop-at.invariant c.loop-at-test.true _
+      c.cell_at.ensures _ c.in-End.is c.requires,
+)
 
 pub offset_bounds-cells-k-in-loop-at : goal.offset_bounds-cells-k-in-loop-at
 offset_bounds-cells-k-in-loop-at c = omega (
-      arith,
-      cells_length c.loop-at.invariant,
-      cell_fits _ _ _ _ _ _ _
-          c.loop-at.invariant c.loop-at-test.true _
-          c.cell_at.ensures _ c.in-End.is c.requires,
-    )
+  arith,
+  cells_length c.loop-at.invariant,
+  cell_fits _ _ _ _ _ _ _
+      c.loop-at.invariant c.loop-at-test.true _
+      c.cell_at.ensures _ c.in-End.is c.requires,
+)
 
 pub bounds-cells-k-in-loop-at : goal.bounds-cells-k-in-loop-at
 bounds-cells-k-in-loop-at c = simp length-set (omega (
-      arith,
-      cells_length c.loop-at.invariant,
-      cell_fits _ _ _ _ _ _ _
-          c.loop-at.invariant c.loop-at-test.true _
-          c.cell_at.ensures _ c.in-End.is c.requires,
-    ))
+  arith,
+  cells_length c.loop-at.invariant,
+  cell_fits _ _ _ _ _ _ _
+      c.loop-at.invariant c.loop-at-test.true _
+      c.cell_at.ensures _ c.in-End.is c.requires,
+))
 
 pub overflow_add-k : goal.overflow_add-k
 overflow_add-k c = omega (
-      arith,
-      cells_length c.loop-at.invariant,
-      cell_fits _ _ _ _ _ _ _
-          c.loop-at.invariant c.loop-at-test.true _
-          c.cell_at.ensures _ c.in-End.is c.requires,
-    )
+  arith,
+  cells_length c.loop-at.invariant,
+  cell_fits _ _ _ _ _ _ _
+      c.loop-at.invariant c.loop-at-test.true _
+      c.cell_at.ensures _ c.in-End.is c.requires,
+)
 
 pub separator_at-requires : goal.separator_at-requires
 separator_at-requires c = (cell_ahead _ _ _ _ _ _ _ c.loop-at.invariant
@@ -83,12 +80,12 @@ separator_at-requires c = (cell_ahead _ _ _ _ _ _ _ c.loop-at.invariant
 
 pub loop-at-smaller-in-Field : goal.loop-at-smaller-in-Field
 loop-at-smaller-in-Field c = omega (
-      arith,
-      cell_ahead_field _ _ _ _ _ _ _ c.loop-at.invariant
-          c.loop-at-test.true _
-          c.cell_at.ensures _ c.in-End.is _
-          c.separator_at.ensures _ c.in-Field.is,
-    )
+  arith,
+  cell_ahead_field _ _ _ _ _ _ _ c.loop-at.invariant
+      c.loop-at-test.true _
+      c.cell_at.ensures _ c.in-End.is _
+      c.separator_at.ensures _ c.in-Field.is,
+)
 
 pub loop-at-preserved-in-Field : goal.loop-at-preserved-in-Field
 loop-at-preserved-in-Field c = cell_then_field _ _ _ _ _ _ _ c.loop-at.invariant
@@ -98,12 +95,12 @@ loop-at-preserved-in-Field c = cell_then_field _ _ _ _ _ _ _ c.loop-at.invariant
 
 pub loop-at-smaller : goal.loop-at-smaller
 loop-at-smaller c = omega (
-      arith,
-      cell_ahead_line _ _ _ _ _ _ _ c.loop-at.invariant
-          c.loop-at-test.true _
-          c.cell_at.ensures _ c.in-End.is _
-          c.separator_at.ensures _ c.in-Line.is,
-    )
+  arith,
+  cell_ahead_line _ _ _ _ _ _ _ c.loop-at.invariant
+      c.loop-at-test.true _
+      c.cell_at.ensures _ c.in-End.is _
+      c.separator_at.ensures _ c.in-Line.is,
+)
 
 pub loop-at-preserved : goal.loop-at-preserved
 loop-at-preserved c = cell_then_line _ _ _ _ _ _ _ c.loop-at.invariant

@@ -1,10 +1,8 @@
 -- `report::fill` meets its contract.
 use Prim.Native.Nat.{◌-◌}
-use native.Mathlib.Omega.{arith}
-use borrow.Author.Rules.{rules}
-use lib.ListN.{length, length-set}
+use lib.ListN.{length}
 use Rattle.report.specs.Reading.{cells_from}
-use Rattle.report.proofs.Loops.{CellsLeft, cells_start, cells_length, cells_over, no_cell, cell_ahead, cell_fits, cell_ahead_field, cell_ahead_line, cell_then_field, cell_then_line, cell_last}
+use Rattle.report.proofs.Loops.{CellsLeft}
 use Rattle.report.proofs.fill.Given as goal
 
 abbrev pub invariant-loop-at : goal.invariant-loop-at

@@ -1,9 +1,5 @@
-use Prim.Native.Nat.{◌-◌}
 use native.Mathlib.Omega.{arith}
-use borrow.Author.Rules.{rules}
-use lib.ListN.{length}
-use Rattle.report.specs.Reading.{line_at}
-use Rattle.report.proofs.Loops.{FieldsLeft, fields_start, fields_past, no_field, field_room, another_ahead, another, line_over, neither}
+use Rattle.report.proofs.Loops.{fields_start, fields_past, no_field, field_room, another_ahead, another, line_over, neither}
 use Rattle.report.proofs.line_at.Goals as goal
 
 pub loop-at-init : goal.loop-at-init
@@ -22,12 +18,12 @@ separator_at-requires c = (field_room _ _ _ _ _ _ c.loop-at.invariant
 
 pub loop-at-smaller : goal.loop-at-smaller
 loop-at-smaller c = omega (
-      arith,
-      another_ahead _ _ _ _ _ _ c.loop-at.invariant
-          c.loop-at-test.true _
-          c.field_at.ensures _ c.in-End.is _
-          c.separator_at.ensures _ c.in-Field.is,
-    )
+  arith,
+  another_ahead _ _ _ _ _ _ c.loop-at.invariant
+      c.loop-at-test.true _
+      c.field_at.ensures _ c.in-End.is _
+      c.separator_at.ensures _ c.in-Field.is,
+)
 
 pub loop-at-preserved : goal.loop-at-preserved
 loop-at-preserved c = another _ _ _ _ _ _ c.loop-at.invariant

@@ -1,10 +1,8 @@
 -- `report::line_at` meets its contract.
 use Prim.Native.Nat.{◌-◌}
-use native.Mathlib.Omega.{arith}
-use borrow.Author.Rules.{rules}
 use lib.ListN.{length}
 use Rattle.report.specs.Reading.{line_at}
-use Rattle.report.proofs.Loops.{FieldsLeft, fields_start, fields_past, no_field, field_room, another_ahead, another, line_over, neither}
+use Rattle.report.proofs.Loops.{FieldsLeft}
 use Rattle.report.proofs.line_at.Given as goal
 
 abbrev pub invariant-loop-at : goal.invariant-loop-at

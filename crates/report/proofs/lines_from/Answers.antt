@@ -1,9 +1,5 @@
-use Prim.Native.Nat.{suc, ◌-◌}
 use native.Mathlib.Omega.{arith}
-use lib.ListN.{length}
-use Rattle.report.specs.Reading.{lines_from}
-use Rattle.report.proofs.Loops.{LinesLeft, lines_start, lines_past, no_line, line_ahead, another_line, other_count}
-use borrow.Author.Rules.{rules}
+use Rattle.report.proofs.Loops.{lines_start, lines_past, no_line, line_ahead, another_line, other_count}
 use Rattle.report.proofs.lines_from.Goals as goal
 
 pub loop-at-init : goal.loop-at-init
@@ -14,11 +10,11 @@ overflow_add-k c = omega (arith, c.loop-at.invariant.few)
 
 pub loop-at-smaller : goal.loop-at-smaller
 loop-at-smaller c = omega (
-      arith,
-      line_ahead _ c.requires.0 _ _ _ _ _
-          c.loop-at.invariant c.loop-at-test.true _
-          c.line_at.ensures _ _ c.in-Fields.is,
-    )
+  arith,
+  line_ahead _ c.requires.0 _ _ _ _ _
+      c.loop-at.invariant c.loop-at-test.true _
+      c.line_at.ensures _ _ c.in-Fields.is,
+)
 
 pub loop-at-preserved : goal.loop-at-preserved
 loop-at-preserved c = another_line _ c.requires.0 _ _ _ _ _

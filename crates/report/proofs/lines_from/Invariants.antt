@@ -1,10 +1,8 @@
 -- `report::lines_from` meets its contract.
 use Prim.Native.Nat.{suc, ◌-◌}
-use native.Mathlib.Omega.{arith}
 use lib.ListN.{length}
 use Rattle.report.specs.Reading.{lines_from}
-use Rattle.report.proofs.Loops.{LinesLeft, lines_start, lines_past, no_line, line_ahead, another_line, other_count}
-use borrow.Author.Rules.{rules}
+use Rattle.report.proofs.Loops.{LinesLeft}
 use Rattle.report.proofs.lines_from.Given as goal
 
 abbrev pub invariant-loop-at : goal.invariant-loop-at

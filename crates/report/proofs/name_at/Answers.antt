@@ -1,5 +1,4 @@
 use Rattle.report.proofs.Stood.{field}
-use borrow.Author.Rules.{rules}
 use Rattle.report.proofs.name_at.Goals as goal
 
 pub returns-in_default : goal.returns-in_default

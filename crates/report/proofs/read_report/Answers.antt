@@ -3,8 +3,6 @@ use mathlib.Core.Path.{refl, sym, ◌∙◌}
 use native.Mathlib.Omega.{arith}
 use Rattle.report.proofs.Cells.{whole_small}
 use Rattle.report.proofs.Answers.{no_delimiter, breaks_there, has_room, little_room, both}
-use borrow.Author.Rules.{rules}
-use borrow.Author.Rules.{rules}
 use Rattle.report.proofs.read_report.Goals as goal
 
 pub judge-requires : goal.judge-requires
@@ -12,21 +10,21 @@ judge-requires c = sym c.is_delimiter.ensures ∙ c.if-is_delimiter.true
 
 pub overflow_add-lines : goal.overflow_add-lines
 overflow_add-lines c = omega (
-      arith,
-      whole_small _ (sym c.is_delimiter.ensures ∙ c.if-is_delimiter.true) _ _ _ (sym c.judge.ensures ∙ c.in-Whole.is),
-    )
+  arith,
+  whole_small _ (sym c.is_delimiter.ensures ∙ c.if-is_delimiter.true) _ _ _ (sym c.judge.ensures ∙ c.in-Whole.is),
+)
 
 pub overflow_mul-columns : goal.overflow_mul-columns
 overflow_mul-columns c = omega (
-      arith,
-      whole_small _ (sym c.is_delimiter.ensures ∙ c.if-is_delimiter.true) _ _ _ (sym c.judge.ensures ∙ c.in-Whole.is),
-    )
+  arith,
+  whole_small _ (sym c.is_delimiter.ensures ∙ c.if-is_delimiter.true) _ _ _ (sym c.judge.ensures ∙ c.in-Whole.is),
+)
 
 pub overflow_mul-columns-in-Whole : goal.overflow_mul-columns-in-Whole
 overflow_mul-columns-in-Whole c = omega (
-      arith,
-      whole_small _ (sym c.is_delimiter.ensures ∙ c.if-is_delimiter.true) _ _ _ (sym c.judge.ensures ∙ c.in-Whole.is),
-    )
+  arith,
+  whole_small _ (sym c.is_delimiter.ensures ∙ c.if-is_delimiter.true) _ _ _ (sym c.judge.ensures ∙ c.in-Whole.is),
+)
 
 pub fill-requires : goal.fill-requires
 fill-requires c = let h = whole_small _ (sym c.is_delimiter.ensures ∙ c.if-is_delimiter.true) _ _ _ (sym c.judge.ensures ∙ c.in-Whole.is) in omega (arith, h.cells)

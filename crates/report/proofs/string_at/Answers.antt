@@ -1,6 +1,5 @@
 -- `report::string_at` meets its contract.
 use Rattle.report.proofs.Stood.{field}
-use borrow.Author.Rules.{rules}
 use Rattle.report.proofs.string_at.Goals as goal
 
 pub returns-then-byte_at-eq34 : goal.returns-then-byte_at-eq34

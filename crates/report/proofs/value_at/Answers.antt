@@ -1,6 +1,5 @@
 -- `report::value_at` meets its contract.
 use Rattle.report.proofs.Stood.{field}
-use borrow.Author.Rules.{rules}
 use Rattle.report.proofs.value_at.Goals as goal
 
 pub returns-then-b-eq34 : goal.returns-then-b-eq34

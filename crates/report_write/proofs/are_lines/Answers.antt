@@ -1,9 +1,5 @@
-use Prim.Native.Nat.{◌-◌, ◌≤◌}
-use mathlib.Core.Path.{◌≡◌, refl}
-use mathlib.Core.Bool.{false}
+use mathlib.Core.Path.{refl}
 use native.Mathlib.Omega.{arith}
-use lib.ListN.{length, drop}
-use Rattle.report_write.specs.Writing.{are_lines}
 use Rattle.report_write.proofs.Loops.{left_some, cell_yes, cell_no, no_cell}
 use borrow.Author.Rules.{rules}
 use Rattle.report_write.proofs.are_lines.Goals as goal
@@ -13,12 +9,12 @@ loop-k-init c = (refl, search rules, omega arith)
 
 pub loop-k-preserved : goal.loop-k-preserved
 loop-k-preserved c = (
-      cell_yes _ _ _ _ _ _ c.loop-k.invariant.0 c.loop-k-test.true
-          c.is_cell.ensures c.if-is_cell.true c.left_after-left.ensures,
-      rw c.left_after-left.ensures (left_some _ _ c.requires
-          c.loop-k.invariant.1),
-      omega arith,
-    )
+  cell_yes _ _ _ _ _ _ c.loop-k.invariant.0 c.loop-k-test.true
+      c.is_cell.ensures c.if-is_cell.true c.left_after-left.ensures,
+  rw c.left_after-left.ensures (left_some _ _ c.requires
+      c.loop-k.invariant.1),
+  omega arith,
+)
 
 pub returns-else-is_cell : goal.returns-else-is_cell
 returns-else-is_cell c = cell_no _ _ _ _ _ _ c.loop-k.invariant.0 c.loop-k-test.true

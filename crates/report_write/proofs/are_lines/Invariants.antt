@@ -1,12 +1,9 @@
 -- `report_write::are_lines` meets its contract.
 use Prim.Native.Nat.{◌-◌, ◌≤◌}
-use mathlib.Core.Path.{◌≡◌, refl}
+use mathlib.Core.Path.{◌≡◌}
 use mathlib.Core.Bool.{false}
-use native.Mathlib.Omega.{arith}
 use lib.ListN.{length, drop}
 use Rattle.report_write.specs.Writing.{are_lines}
-use Rattle.report_write.proofs.Loops.{left_some, cell_yes, cell_no, no_cell}
-use borrow.Author.Rules.{rules}
 use Rattle.report_write.proofs.are_lines.Given as goal
 
 abbrev pub invariant-loop-k : goal.invariant-loop-k

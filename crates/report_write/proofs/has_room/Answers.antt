@@ -1,11 +1,6 @@
-use Prim.Native.Nat.{◌-◌}
 use mathlib.Core.Path.{refl}
 use native.Mathlib.Omega.{arith}
-use lib.Dec.{leb}
-use lib.ListN.{length}
-use Rattle.report_write.specs.Writing.{text_from}
-use Rattle.report_write.proofs.Loops.{lines_start, Room, room_over, taken_fits, no_room, room_next}
-use borrow.Author.Rules.{rules}
+use Rattle.report_write.proofs.Loops.{lines_start, room_over, taken_fits, no_room, room_next}
 use Rattle.report_write.proofs.has_room.Goals as goal
 
 pub loop-k-init : goal.loop-k-init
@@ -13,10 +8,10 @@ loop-k-init c = record { here = lines_start _ _ _ c.requires.0 c.requires.1; sam
 
 pub overflow_add-needed-in-loop-k : goal.overflow_add-needed-in-loop-k
 overflow_add-needed-in-loop-k c = omega (
-      arith,
-      taken_fits _ _ _ _ _ _ _ _ c.loop-k.invariant c.requires.0
-          c.loop-k-test.true _ c.separator_length.ensures,
-    )
+  arith,
+  taken_fits _ _ _ _ _ _ _ _ c.loop-k.invariant c.requires.0
+      c.loop-k-test.true _ c.separator_length.ensures,
+)
 
 pub returns-then-free-needed : goal.returns-then-free-needed
 returns-then-free-needed c = no_room _ _ _ _ _ _ _ _ c.loop-k.invariant c.requires.0

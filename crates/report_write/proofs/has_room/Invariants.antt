@@ -1,12 +1,9 @@
 -- `report_write::has_room` meets its contract.
 use Prim.Native.Nat.{◌-◌}
-use mathlib.Core.Path.{refl}
-use native.Mathlib.Omega.{arith}
 use lib.Dec.{leb}
 use lib.ListN.{length}
 use Rattle.report_write.specs.Writing.{text_from}
-use Rattle.report_write.proofs.Loops.{lines_start, Room, room_over, taken_fits, no_room, room_next}
-use borrow.Author.Rules.{rules}
+use Rattle.report_write.proofs.Loops.{Room}
 use Rattle.report_write.proofs.has_room.Given as goal
 
 abbrev pub invariant-loop-k : goal.invariant-loop-k

@@ -1,6 +1,5 @@
 -- `report_write::is_cell` meets its contract.
 use Rattle.report_write.proofs.Loops.{cell}
-use borrow.Author.Rules.{rules}
 use Rattle.report_write.proofs.is_cell.Goals as goal
 
 pub returns-then-n-source : goal.returns-then-n-source

@@ -1,6 +1,5 @@
 -- `report_write::is_field` meets its contract.
 use Rattle.report_write.proofs.Loops.{cell}
-use borrow.Author.Rules.{rules}
 use Rattle.report_write.proofs.is_field.Goals as goal
 
 pub returns-in_default : goal.returns-in_default

@@ -1,6 +1,5 @@
 -- `report_write::left_after` meets its contract.
 use Rattle.laws.proofs.Choose.{choose}
-use borrow.Author.Rules.{rules}
 use Rattle.report_write.proofs.left_after.Goals as goal
 
 pub returns-then-left-eq1 : goal.returns-then-left-eq1

@@ -1,7 +1,6 @@
 -- `report_write::put_cell` meets its contract.
 use Rattle.field.proofs.Put.{then, as_bytes}
 use Rattle.report_write.proofs.Loops.{handed_on}
-use borrow.Author.Rules.{rules}
 use Rattle.report_write.proofs.put_cell.Goals as goal
 
 pub returns : goal.returns

@@ -1,10 +1,5 @@
-use Prim.Native.Nat.{◌-◌}
-use native.Mathlib.Omega.{arith}
-use lib.ListN.{length}
 use Rattle.field.proofs.Put.{wrote_length}
-use Rattle.report_write.specs.Writing.{text_from}
-use Rattle.report_write.proofs.Loops.{Written, written_start, written_over, cell_fits, written_next}
-use borrow.Author.Rules.{rules}
+use Rattle.report_write.proofs.Loops.{written_start, written_over, cell_fits, written_next}
 use Rattle.report_write.proofs.put_cells.Goals as goal
 
 pub loop-k-init : goal.loop-k-init

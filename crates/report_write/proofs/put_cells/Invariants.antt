@@ -1,11 +1,8 @@
 -- `report_write::put_cells` meets its contract.
 use Prim.Native.Nat.{◌-◌}
-use native.Mathlib.Omega.{arith}
 use lib.ListN.{length}
-use Rattle.field.proofs.Put.{wrote_length}
 use Rattle.report_write.specs.Writing.{text_from}
-use Rattle.report_write.proofs.Loops.{Written, written_start, written_over, cell_fits, written_next}
-use borrow.Author.Rules.{rules}
+use Rattle.report_write.proofs.Loops.{Written}
 use Rattle.report_write.proofs.put_cells.Given as goal
 
 abbrev pub invariant-loop-k : goal.invariant-loop-k

@@ -3,7 +3,6 @@ use mathlib.Core.Path.{sym, ◌∙◌}
 use Rattle.report_write.specs.Writing.{write_refusal}
 use Rattle.report_write.proofs.Writes.{may_tested}
 use Rattle.laws.proofs.Choose.{choose}
-use borrow.Author.Rules.{rules}
 use Rattle.report_write.proofs.write_refusal.Goals as goal
 
 pub are_lines-requires : goal.are_lines-requires
@@ -11,10 +10,10 @@ are_lines-requires c = may_tested _ _ _ c.may_write.ensures c.if-may_write.true
 
 pub has_room-requires : goal.has_room-requires
 has_room-requires c = (
-      may_tested _ _ _ c.may_write.ensures c.if-may_write.true,
-      sym
-          c.are_lines.ensures ∙ c.if-are_lines.true,
-    )
+  may_tested _ _ _ c.may_write.ensures c.if-may_write.true,
+  sym
+      c.are_lines.ensures ∙ c.if-are_lines.true,
+)
 
 pub returns-then-has_room : goal.returns-then-has_room
 unfolding write_refusal

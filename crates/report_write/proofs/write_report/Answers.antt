@@ -1,8 +1,6 @@
 -- `report_write::write_report` meets its contract.
 use mathlib.Core.Path.{sym, ◌∙◌}
 use Rattle.report_write.proofs.Writes.{not_refused, wrote_report, refused_report}
-use borrow.Author.Rules.{rules}
-use borrow.Author.Rules.{rules}
 use Rattle.report_write.proofs.write_report.Goals as goal
 
 pub put_cells-requires : goal.put_cells-requires

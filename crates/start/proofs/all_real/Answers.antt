@@ -1,7 +1,6 @@
 -- `start::all_real` meets its contract.
 use Rattle.laws.proofs.Choose.{choose}
 use Rattle.start.specs.Decision.{all_real}
-use borrow.Author.Rules.{rules}
 use Rattle.start.proofs.all_real.Goals as goal
 
 pub returns : goal.returns

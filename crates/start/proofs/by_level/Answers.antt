@@ -1,5 +1,4 @@
 -- `start::by_level` meets its contract.
-use borrow.Author.Rules.{rules}
 use Rattle.start.proofs.Levels.{equal_by_order, not_equal_by_order, at_most_by_order}
 use Rattle.start.proofs.by_level.Goals as goal
 

@@ -1,5 +1,4 @@
 -- `start::clause_is_due` meets its contract.
-use borrow.Author.Rules.{rules}
 use Rattle.start.specs.Decision.{present_value}
 use Rattle.start.proofs.clause_is_due.Goals as goal
 

@@ -1,5 +1,4 @@
 -- `start::clause_refusal` meets its contract.
-use borrow.Author.Rules.{rules}
 use Rattle.start.specs.Decision.{present_value}
 use Rattle.start.proofs.Steps.{time_not_refused}
 use Rattle.start.proofs.clause_refusal.Goals as goal

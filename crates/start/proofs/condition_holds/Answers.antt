@@ -1,5 +1,4 @@
 -- `start::condition_holds` meets its contract.
-use borrow.Author.Rules.{rules}
 use mathlib.Core.Path.{ap, ◌∙◌}
 use mathlib.Core.Bool.{Bool}
 use Rattle.item.specs.Tokens.{paper_operator}

@@ -1,5 +1,4 @@
 -- `start::condition_refusal` meets its contract.
-use borrow.Author.Rules.{rules}
 use Rattle.item.specs.Tokens.{paper_operator}
 use Rattle.start.proofs.Steps.{not_permitted, not_comparable_lem, no_refusal}
 use Rattle.start.proofs.condition_refusal.Goals as goal

@@ -1,5 +1,4 @@
 -- `start::constant_permitted` meets its contract.
-use borrow.Author.Rules.{rules}
 use Rattle.start.proofs.constant_permitted.Goals as goal
 
 pub returns-in-Number : goal.returns-in-Number

@@ -1,7 +1,4 @@
-use Prim.Native.Nat.{◌-◌, ◌*◌, ◌^◌, ◌≤◌, ◌<◌}
-use mathlib.Core.Path.{◌≡◌}
 use native.Mathlib.Omega.{arith}
-use Rattle.start.specs.Decision.{mantissa_limit}
 use Rattle.start.proofs.Growing.{begun, beyond, one_more, whole}
 use Rattle.start.proofs.grown.Goals as goal
 

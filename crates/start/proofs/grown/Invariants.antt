@@ -1,9 +1,7 @@
 -- `start::grown` meets its contract.
 use Prim.Native.Nat.{◌-◌, ◌*◌, ◌^◌, ◌≤◌, ◌<◌}
 use mathlib.Core.Path.{◌≡◌}
-use native.Mathlib.Omega.{arith}
 use Rattle.start.specs.Decision.{mantissa_limit}
-use Rattle.start.proofs.Growing.{begun, beyond, one_more, whole}
 use Rattle.start.proofs.grown.Given as goal
 
 abbrev pub invariant-loop-i : goal.invariant-loop-i

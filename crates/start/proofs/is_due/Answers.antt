@@ -1,5 +1,4 @@
 -- `start::is_due` meets its contract.
-use borrow.Author.Rules.{rules}
 use mathlib.Core.Path.{sym, ◌∙◌}
 use Rattle.start.proofs.Steps.{unreal_so, refused_so, decided_so}
 use Rattle.start.proofs.is_due.Goals as goal

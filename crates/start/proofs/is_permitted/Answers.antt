@@ -3,7 +3,6 @@ use mir.Syntax.{w64}
 use mir.ValLaws.{to_z-of_z}
 use Rattle.item.specs.Tokens.{paper_number}
 use Rattle.start.proofs.Steps.{permitted_so}
-use borrow.Author.Rules.{rules}
 use Rattle.start.proofs.is_permitted.Goals as goal
 
 pub returns : goal.returns

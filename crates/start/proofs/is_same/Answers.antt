@@ -1,5 +1,4 @@
 -- `start::is_same` meets its contract.
-use borrow.Author.Rules.{rules}
 use Rattle.start.proofs.Steps.{same_so, differs_so}
 use Rattle.start.proofs.is_same.Goals as goal
 

@@ -1,5 +1,4 @@
 -- `start::level` meets its contract.
-use borrow.Author.Rules.{rules}
 use mir.Syntax.{w64}
 use mir.ValLaws.{to_z-of_z}
 use Rattle.start.proofs.Growing.{small_size, level_below, level_above}

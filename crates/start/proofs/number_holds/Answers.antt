@@ -1,5 +1,4 @@
 -- `start::number_holds` meets its contract.
-use borrow.Author.Rules.{rules}
 use mir.Syntax.{w64}
 use mir.ValLaws.{to_z-of_z}
 use Rattle.item.specs.Tokens.{paper_number, paper_operator}

@@ -1,5 +1,4 @@
 -- `start::own_real` meets its contract.
-use borrow.Author.Rules.{rules}
 use Rattle.start.proofs.own_real.Goals as goal
 
 pub returns-in-Any : goal.returns-in-Any

@@ -1,5 +1,4 @@
 -- `start::time_is_due` meets its contract.
-use borrow.Author.Rules.{rules}
 use Rattle.start.proofs.time_is_due.Goals as goal
 
 pub returns-in-Any : goal.returns-in-Any

@@ -1,5 +1,4 @@
 -- `start::value_permitted` meets its contract.
-use borrow.Author.Rules.{rules}
 use Rattle.laws.proofs.Choose.{choose}
 use Rattle.record.specs.Record.{is_text}
 use Rattle.start.proofs.value_permitted.Goals as goal

@@ -2,7 +2,6 @@
 use Rattle.grammar.specs.Grammar.Point.{abort_kind}
 use Rattle.laws.proofs.Choose.{choose}
 use Rattle.statement.proofs.Along.{reads}
-use borrow.Author.Rules.{rules}
 use Rattle.statement.proofs.abort_kind.Goals as goal
 
 pub returns-then-t-eq-REPORT : goal.returns-then-t-eq-REPORT

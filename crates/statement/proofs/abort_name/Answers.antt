@@ -2,7 +2,6 @@
 use Rattle.grammar.specs.Grammar.Point.{abort_name}
 use Rattle.laws.proofs.Choose.{choose}
 use Rattle.statement.proofs.Along.{reads}
-use borrow.Author.Rules.{rules}
 use Rattle.statement.proofs.abort_name.Goals as goal
 
 pub returns-then-t-eq-NAME : goal.returns-then-t-eq-NAME

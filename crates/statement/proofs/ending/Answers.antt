@@ -1,7 +1,6 @@
 -- `statement::ending` meets its contract.
 use Rattle.grammar.specs.Grammar.Point.{ending}
 use Rattle.statement.proofs.Along.{reads, along}
-use borrow.Author.Rules.{rules}
 use Rattle.statement.proofs.ending.Goals as goal
 
 pub returns-then-t-eq-SEMICOLON : goal.returns-then-t-eq-SEMICOLON

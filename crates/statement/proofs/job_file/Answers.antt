@@ -2,7 +2,6 @@
 use Rattle.grammar.specs.Grammar.Point.{job_file}
 use Rattle.laws.proofs.Choose.{choose}
 use Rattle.statement.proofs.Along.{reads}
-use borrow.Author.Rules.{rules}
 use Rattle.statement.proofs.job_file.Goals as goal
 
 pub returns-then-t-eq-STRING : goal.returns-then-t-eq-STRING

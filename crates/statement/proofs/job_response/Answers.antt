@@ -2,7 +2,6 @@
 use Rattle.grammar.specs.Grammar.Point.{job_response}
 use Rattle.laws.proofs.Choose.{choose}
 use Rattle.statement.proofs.Along.{reads}
-use borrow.Author.Rules.{rules}
 use Rattle.statement.proofs.job_response.Goals as goal
 
 pub returns-then-t-eq-RESPONSE : goal.returns-then-t-eq-RESPONSE

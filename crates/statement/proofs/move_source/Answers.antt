@@ -2,7 +2,6 @@
 use Rattle.grammar.specs.Grammar.Point.{move_source}
 use Rattle.laws.proofs.Choose.{choose}
 use Rattle.statement.proofs.Along.{reads}
-use borrow.Author.Rules.{rules}
 use Rattle.statement.proofs.move_source.Goals as goal
 
 pub returns-then-t-eq-ACTIVE : goal.returns-then-t-eq-ACTIVE

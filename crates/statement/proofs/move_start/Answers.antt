@@ -1,7 +1,6 @@
 -- `statement::move_start` meets its contract.
 use Rattle.grammar.specs.Grammar.Point.{move_start}
 use Rattle.statement.proofs.Along.{reads, along}
-use borrow.Author.Rules.{rules}
 use Rattle.statement.proofs.move_start.Goals as goal
 
 pub returns-then-t-eq-START : goal.returns-then-t-eq-START

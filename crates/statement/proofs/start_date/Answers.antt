@@ -1,7 +1,6 @@
 -- `statement::start_date` meets its contract.
 use Rattle.grammar.specs.Grammar.Point.{start_date}
 use Rattle.statement.proofs.Along.{reads, along}
-use borrow.Author.Rules.{rules}
 use Rattle.statement.proofs.start_date.Goals as goal
 
 pub returns-then-t-eq-DATE : goal.returns-then-t-eq-DATE

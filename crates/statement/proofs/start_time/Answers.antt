@@ -2,7 +2,6 @@
 use Rattle.grammar.specs.Grammar.Point.{start_time}
 use Rattle.laws.proofs.Choose.{choose}
 use Rattle.statement.proofs.Along.{reads}
-use borrow.Author.Rules.{rules}
 use Rattle.statement.proofs.start_time.Goals as goal
 
 pub returns-then-t-eq-TIME : goal.returns-then-t-eq-TIME

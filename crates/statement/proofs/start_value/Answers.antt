@@ -2,7 +2,6 @@
 use Rattle.statement.proofs.Values.{values}
 use Rattle.grammar.specs.Grammar.Point.{start_value}
 use Rattle.statement.proofs.Along.{reads}
-use borrow.Author.Rules.{rules}
 use Rattle.statement.proofs.start_value.Goals as goal
 
 pub returns-then-is_number : goal.returns-then-is_number

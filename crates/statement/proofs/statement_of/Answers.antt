@@ -1,7 +1,6 @@
 -- `statement::statement_of` meets its contract.
 use Rattle.laws.proofs.Choose.{choose}
 use Rattle.statement.specs.Statement.{statement_of}
-use borrow.Author.Rules.{rules}
 use Rattle.statement.proofs.statement_of.Goals as goal
 
 pub returns-then-t-eq-JOB : goal.returns-then-t-eq-JOB

@@ -1,5 +1,4 @@
 -- `statement::unexpected` meets its contract.
-use borrow.Author.Rules.{rules}
 use Rattle.statement.proofs.unexpected.Goals as goal
 
 pub returns : goal.returns

@@ -1,5 +1,4 @@
 use mathlib.Core.Path.{refl, ap}
-use borrow.Author.Rules.{rules}
 use native.Mathlib.Omega.{arith}
 use mir.ValLaws.{to_z-of_z}
 use mir.Syntax.{w64}

@@ -1,5 +1,4 @@
 use Rattle.session_table.specs.Paper.{paper_answered}
-use borrow.Author.Rules.{rules}
 use Rattle.c_answers.proofs.tables.give_answered.Goals as goal
 
 pub returns-in-Accepted : goal.returns-in-Accepted

@@ -1,6 +1,5 @@
 use mathlib.Core.Path.{refl}
 use Rattle.session_table.specs.Paper.{paper_collected}
-use borrow.Author.Rules.{rules}
 use Rattle.c_answers.proofs.tables.give_collected.Goals as goal
 
 pub returns-in-Written : goal.returns-in-Written

@@ -1,5 +1,4 @@
 use Rattle.session_table.specs.Paper.{paper_made}
-use borrow.Author.Rules.{rules}
 use Rattle.c_answers.proofs.tables.give_made.Goals as goal
 
 pub returns-in-Fresh : goal.returns-in-Fresh

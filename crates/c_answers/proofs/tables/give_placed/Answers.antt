@@ -1,6 +1,5 @@
 use mathlib.Core.Path.{refl}
 use Rattle.session_table.specs.Paper.{paper_placed}
-use borrow.Author.Rules.{rules}
 use Rattle.c_answers.proofs.tables.give_placed.Goals as goal
 
 pub returns-in-At : goal.returns-in-At

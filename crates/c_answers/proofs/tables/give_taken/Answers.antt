@@ -1,6 +1,5 @@
 use mathlib.Core.Path.{refl}
 use Rattle.session_table.specs.Paper.{paper_taken_up}
-use borrow.Author.Rules.{rules}
 use Rattle.c_answers.proofs.tables.give_taken.Goals as goal
 
 pub returns-in-Given : goal.returns-in-Given

@@ -1,5 +1,4 @@
 use Rattle.laws.proofs.Choose.{choose}
-use borrow.Author.Rules.{rules}
 use Rattle.c_numbers.proofs.records.outcome_given.Goals as goal
 
 pub returns-then-outcome-eq-OUTCOME_PROCESSED : goal.returns-then-outcome-eq-OUTCOME_PROCESSED

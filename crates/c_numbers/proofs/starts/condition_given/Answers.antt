@@ -1,5 +1,4 @@
 use Rattle.c_numbers.proofs.Given.{condition_yes, condition_no}
-use borrow.Author.Rules.{rules}
 use Rattle.c_numbers.proofs.starts.condition_given.Goals as goal
 
 pub returns-then-o : goal.returns-then-o

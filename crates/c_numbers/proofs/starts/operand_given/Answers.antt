@@ -2,7 +2,6 @@ use mir.Syntax.{w64}
 use mir.ValLaws.{to_z-of_z}
 use Rattle.c_numbers.proofs.Given.{operand_number}
 use Rattle.laws.proofs.Choose.{choose}
-use borrow.Author.Rules.{rules}
 use Rattle.c_numbers.proofs.starts.operand_given.Goals as goal
 
 pub returns-then-kind-eq-OPERAND_NUMBER : goal.returns-then-kind-eq-OPERAND_NUMBER

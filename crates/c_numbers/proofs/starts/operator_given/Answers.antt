@@ -1,5 +1,4 @@
 use Rattle.laws.proofs.Choose.{choose}
-use borrow.Author.Rules.{rules}
 use Rattle.c_numbers.proofs.starts.operator_given.Goals as goal
 
 pub returns-then-o-eq-OPERATOR_EQUAL : goal.returns-then-o-eq-OPERATOR_EQUAL

@@ -1,5 +1,4 @@
 use Rattle.laws.proofs.Choose.{choose}
-use borrow.Author.Rules.{rules}
 use Rattle.c_numbers.proofs.starts.start_given.Goals as goal
 
 pub returns-then-k-eq-START_IMMEDIATE : goal.returns-then-k-eq-START_IMMEDIATE

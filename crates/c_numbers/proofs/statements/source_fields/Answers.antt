@@ -1,4 +1,3 @@
-use borrow.Author.Rules.{rules}
 use Rattle.c_numbers.proofs.statements.source_fields.Goals as goal
 
 pub returns-in-Active : goal.returns-in-Active

@@ -1,4 +1,3 @@
-use borrow.Author.Rules.{rules}
 use Rattle.c_numbers.proofs.statements.start_fields.Goals as goal
 
 pub returns-in-Immediate : goal.returns-in-Immediate

@@ -1,4 +1,3 @@
-use borrow.Author.Rules.{rules}
 use Rattle.c_numbers.proofs.statements.statement_numbers.Goals as goal
 
 pub returns-in-Job : goal.returns-in-Job
