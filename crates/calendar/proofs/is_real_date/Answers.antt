@@ -8,13 +8,15 @@ use Rattle.calendar.proofs.Laws.{dated, left_fields, date_is, early_date, no_mon
 use Rattle.calendar.proofs.is_real_date.Goals as goal
 
 pub returns-then-low_within : goal.returns-then-low_within
-returns-then-low_within c = let month = c.middle_within in
+returns-then-low_within c =
+    let month = c.middle_within in
     early_date _ _ _ _ c.if-n-le99999999.true (left_fields _ _ (omega arith))
     (sym month.ensures ∙ c.if-middle_within.true)
     (sym c.low_within.ensures ∙ c.if-low_within.true)
 
 pub returns-then-middle_within : goal.returns-then-middle_within
-returns-then-middle_within c = let month = c.middle_within in
+returns-then-middle_within c =
+    let month = c.middle_within in
     let date = c.fields_of-date in
     date_is _ _ _ _ c.if-n-le99999999.true (dated _ _ _ _ _ (omega arith) date.ensures) _
     (rw date.ensures.1 (sym month.ensures ∙ c.if-middle_within.true))

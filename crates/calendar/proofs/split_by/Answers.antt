@@ -21,7 +21,8 @@ pub returns-then-rest-power : goal.returns-then-rest-power
 returns-then-rest-power c = all_counted _ _ _ c.requires.0 c.if-rest-power.true
 
 pub overflow_add-result : goal.overflow_add-result
-overflow_add-result c = let a = c.args in
+overflow_add-result c =
+    let a = c.args in
     omega (arith, (one_more a.n a.power a.some c.requires.0 c.requires.1 c.if-rest-power.false).0, div-le_self a.n a.power)
 
 pub returns : goal.returns

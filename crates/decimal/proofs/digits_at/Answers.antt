@@ -23,27 +23,32 @@ pub returns-then-s-at-2 : goal.returns-then-s-at-2
 returns-then-s-at-2 c = read_short _ _ _ (omega arith) (omega arith)
 
 pub loop-i-init : goal.loop-i-init
-loop-i-init c = let a = c.args in
+loop-i-init c =
+    let a = c.args in
     let e : a.at + 0 ≡ a.at = omega arith in
     let f : a.width - 0 ≡ a.width = omega arith in
     (omega arith, omega arith, rw (e, f) (read_start a.s.now a.at a.width (omega arith)))
 
 pub returns-then-b-lt48 : goal.returns-then-b-lt48
-returns-then-b-lt48 c = let l = c.loop-i in
+returns-then-b-lt48 c =
+    let l = c.loop-i in
     let a = c.args in
     sym (read_stop a.s.now a.at l.i a.width l.acc (omega arith) (omega arith) (low_byte _ c.if-b-lt48.true)) ∙ l.invariant.2
 
 pub returns-then-b-gt57 : goal.returns-then-b-gt57
-returns-then-b-gt57 c = let l = c.loop-i in
+returns-then-b-gt57 c =
+    let l = c.loop-i in
     let a = c.args in
     sym (read_stop a.s.now a.at l.i a.width l.acc (omega arith) (omega arith) (high_byte _ c.if-b-gt57.true)) ∙ l.invariant.2
 
 pub overflow_mul-acc : goal.overflow_mul-acc
-overflow_mul-acc c = let l = c.loop-i in
+overflow_mul-acc c =
+    let l = c.loop-i in
     omega (arith, room l.acc l.i c.args.width l.invariant.1 (omega arith) (omega arith))
 
 pub overflow_add-acc : goal.overflow_add-acc
-overflow_add-acc c = let l = c.loop-i in
+overflow_add-acc c =
+    let l = c.loop-i in
     omega (
       arith,
       room l.acc l.i c.args.width l.invariant.1 (omega arith)
@@ -51,7 +56,8 @@ overflow_add-acc c = let l = c.loop-i in
     )
 
 pub loop-i-preserved : goal.loop-i-preserved
-loop-i-preserved c = let l = c.loop-i in
+loop-i-preserved c =
+    let l = c.loop-i in
     let a = c.args in
     let digit = digit_byte (get_or a.s.now (a.at + l.i) 0) (omega arith) (omega arith) in (
       omega arith,
@@ -60,6 +66,7 @@ loop-i-preserved c = let l = c.loop-i in
     )
 
 pub returns : goal.returns
-returns c = let l = c.loop-i in
+returns c =
+    let l = c.loop-i in
     let a = c.args in
     sym (read_end a.s.now a.at l.i a.width l.acc (omega arith)) ∙ l.invariant.2

@@ -22,11 +22,13 @@ pub loop-power-smaller : goal.loop-power-smaller
 loop-power-smaller c = omega (arith, too_narrow c.args.n c.loop-power.width c.loop-power.power c.loop-power-test.true c.loop-power.invariant.2)
 
 pub loop-power-preserved : goal.loop-power-preserved
-loop-power-preserved c = let l = c.loop-power in
+loop-power-preserved c =
+    let l = c.loop-power in
     let narrow = too_narrow c.args.n l.width l.power c.loop-power-test.true l.invariant.2 in
     (omega arith, omega arith, omega (arith, l.invariant.2, tenfold l.width))
 
 pub returns : goal.returns
-returns c = let l = c.loop-power in
+returns c =
+    let l = c.loop-power in
     let n = c.args.n in
     omega (arith, plain_le n l.width l.invariant.0 (wide_enough n l.width l.power c.loop-power-test.false l.invariant.2))

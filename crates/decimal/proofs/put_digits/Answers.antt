@@ -52,21 +52,24 @@ pub loop-left-init : goal.loop-left-init
 loop-left-init c = (omega arith, omega arith, c.requires.1, refl, refl)
 
 pub take_out-digit-requires : goal.take_out-digit-requires
-take_out-digit-requires c = let l = c.loop-left in
+take_out-digit-requires c =
+    let l = c.loop-left in
     let power = c.ten_to in (
       below_ten l.left l.rest power.result c.loop-left-test.true l.invariant.2 power.ensures,
       sixteenth l.left power.result (omega arith) power.ensures,
     )
 
 pub overflow_add-out : goal.overflow_add-out
-overflow_add-out c = let l = c.loop-left in
+overflow_add-out c =
+    let l = c.loop-left in
     let power = c.ten_to in
     let digit = c.take_out-digit in
     let less = below_ten l.left l.rest power.result c.loop-left-test.true l.invariant.2 power.ensures in
     omega (arith, one_digit l.rest power.result digit.result.times less digit.ensures.0)
 
 pub loop-left-preserved : goal.loop-left-preserved
-loop-left-preserved c = let l = c.loop-left in
+loop-left-preserved c =
+    let l = c.loop-left in
     let some = c.loop-left-test.true in
     let power = c.ten_to in
     let digit = c.take_out-digit in (
@@ -80,7 +83,8 @@ loop-left-preserved c = let l = c.loop-left in
     )
 
 pub returns : goal.returns
-returns c = let l = c.loop-left in
+returns c =
+    let l = c.loop-left in
     let a = c.args in
     let end : a.at + a.width ≡ l.next = omega arith in
     record {

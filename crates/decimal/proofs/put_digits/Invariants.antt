@@ -7,7 +7,8 @@ use Rattle.field.specs.Part.{put}
 use Rattle.decimal.proofs.put_digits.Given as goal
 
 abbrev pub invariant-loop-left : goal.invariant-loop-left
-invariant-loop-left l = (l.left ≤ l.width)
+invariant-loop-left l =
+    (l.left ≤ l.width)
     × (l.next + l.left ≡ l.at + l.width)
     × (l.rest < 10 ^ l.left)
     × (length l.out ≡ length l.initial.out)

@@ -27,26 +27,31 @@ module _ (n power times rest : ℕ) (taken : times * power + rest ≡ n) where
   one_fits h small = few n power (times + 1) (rest - power) (one_more h) small
 
 pub overflow_add-times : goal.overflow_add-times
-overflow_add-times c = let l = c.loop-rest in
+overflow_add-times c =
+    let l = c.loop-rest in
     let a = c.args in
     omega (arith, two_fit a.n a.power l.times l.rest l.invariant c.if-two-rest.true c.requires.0)
 
 pub loop-rest-preserved-then-two-rest : goal.loop-rest-preserved-then-two-rest
-loop-rest-preserved-then-two-rest c = let l = c.loop-rest in
+loop-rest-preserved-then-two-rest c =
+    let l = c.loop-rest in
     let a = c.args in
     two_more a.n a.power l.times l.rest l.invariant c.if-two-rest.true
 
 pub overflow_add-times-else-two-rest : goal.overflow_add-times-else-two-rest
-overflow_add-times-else-two-rest c = let l = c.loop-rest in
+overflow_add-times-else-two-rest c =
+    let l = c.loop-rest in
     let a = c.args in
     omega (arith, one_fits a.n a.power l.times l.rest l.invariant (omega arith) c.requires.0)
 
 pub loop-rest-preserved : goal.loop-rest-preserved
-loop-rest-preserved c = let l = c.loop-rest in
+loop-rest-preserved c =
+    let l = c.loop-rest in
     let a = c.args in
     one_more a.n a.power l.times l.rest l.invariant (omega arith)
 
 pub returns : goal.returns
-returns c = let l = c.loop-rest in
+returns c =
+    let l = c.loop-rest in
     let a = c.args in
     parted l.times a.power l.rest a.n l.invariant c.loop-rest-test.false

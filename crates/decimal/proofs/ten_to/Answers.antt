@@ -12,13 +12,16 @@ same_power : (i k power : ℕ) → i ≡ k → power ≡ 10 ^ i → power ≡ 10
 same_power i k power h e = rw (e, h)
 
 pub overflow_mul-power : goal.overflow_mul-power
-overflow_mul-power c = let l = c.loop-i in
+overflow_mul-power c =
+    let l = c.loop-i in
     omega (arith, room l.i l.power (omega arith) l.invariant.1)
 
 pub loop-i-preserved : goal.loop-i-preserved
-loop-i-preserved c = let l = c.loop-i in
+loop-i-preserved c =
+    let l = c.loop-i in
     (omega arith, omega (arith, l.invariant.1, tenfold l.i))
 
 pub returns : goal.returns
-returns c = let l = c.loop-i in
+returns c =
+    let l = c.loop-i in
     same_power l.i c.args.k l.power (omega arith) l.invariant.1

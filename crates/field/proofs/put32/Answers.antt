@@ -36,6 +36,7 @@ bounds-b-at-4 c = simp length-set (omega arith)
 
 pub returns : goal.returns
 unfolding put_w
-returns c = let v = c.args.v in
+returns c =
+    let v = c.args.v in
     let high : v / 256 ^ 3 % 256 ≡ v / 2 ^ 24 = omega arith in
     simp (add-zero, div-one, low_byte, high)

@@ -21,16 +21,19 @@ done : (out src : List ℕ) (at j : ℕ) → j ≡ length src → put out (at + 
 done out src at j e = rw (e, drop-length src) (put_nil out (at + length src))
 
 pub loop-j-init : goal.loop-j-init
-loop-j-init c = let e : c.args.at + 0 ≡ c.args.at = omega arith in
+loop-j-init c =
+    let e : c.args.at + 0 ≡ c.args.at = omega arith in
     (omega arith, refl, rw e)
 
 pub loop-j-preserved : goal.loop-j-preserved
-loop-j-preserved c = let l = c.loop-j in
+loop-j-preserved c =
+    let l = c.loop-j in
     let a = c.args in
     (omega arith, simp length-set l.invariant.1, turn l.out a.src.now a.at l.j (omega arith) ∙ l.invariant.2)
 
 pub returns : goal.returns
-returns c = let l = c.loop-j in
+returns c =
+    let l = c.loop-j in
     let a = c.args in
     let e : l.j ≡ length a.src.now = omega arith in
     record { next = ap (λ (k : ℕ). a.at + k) e; bytes = sym (done l.out a.src.now a.at l.j e) ∙ l.invariant.2 }

@@ -19,12 +19,14 @@ item_of-requires-in-Word c = let l = lies _ _ _ _ c.next_token.ensures c.in-Word
 
 pub number_item-requires : goal.number_item-requires
 unfolding numbered
-number_item-requires c = let l = lies _ _ _ _ c.next_token.ensures c.in-Number.is in
+number_item-requires c =
+    let l = lies _ _ _ _ c.next_token.ensures c.in-Number.is in
     (number_inside _ _ _ _ _ c.next_token.ensures c.in-Number.is, omega arith)
 
 pub time_item-requires : goal.time_item-requires
 unfolding numbered
-time_item-requires c = let l = lies _ _ _ _ c.next_token.ensures c.in-Time.is in
+time_item-requires c =
+    let l = lies _ _ _ _ c.next_token.ensures c.in-Time.is in
     let m = time_inside _ _ _ _ _ c.next_token.ensures c.in-Time.is in
     omega arith
 
@@ -42,40 +44,48 @@ item_of-requires-in-Semicolon c = let l = lies _ _ _ _ c.next_token.ensures c.in
 
 pub returns-in-End : goal.returns-in-End
 unfolding numbered
-returns-in-End c = stood _ _ _ c.requires _ _ c.next_token.ensures
+returns-in-End c =
+    stood _ _ _ c.requires _ _ c.next_token.ensures
     c.in-End.is _ c.item_of.ensures
 
 pub returns-in-NoToken : goal.returns-in-NoToken
 unfolding numbered
-returns-in-NoToken c = stood _ _ _ c.requires _ _ c.next_token.ensures
+returns-in-NoToken c =
+    stood _ _ _ c.requires _ _ c.next_token.ensures
     c.in-NoToken.is _ (rw (← c.no_token_class.ensures) c.item_of-in-NoToken.ensures)
 
 pub returns-in-Word : goal.returns-in-Word
 unfolding numbered
-returns-in-Word c = stood _ _ _ c.requires _ _ c.next_token.ensures
+returns-in-Word c =
+    stood _ _ _ c.requires _ _ c.next_token.ensures
     c.in-Word.is _ (rw (← c.word_class.ensures) c.item_of-in-Word.ensures)
 
 pub returns-in-Number : goal.returns-in-Number
 unfolding numbered
-returns-in-Number c = stood _ _ _ c.requires _ _ c.next_token.ensures
+returns-in-Number c =
+    stood _ _ _ c.requires _ _ c.next_token.ensures
     c.in-Number.is _ c.number_item.ensures
 
 pub returns-in-Time : goal.returns-in-Time
 unfolding numbered
-returns-in-Time c = stood _ _ _ c.requires _ _ c.next_token.ensures
+returns-in-Time c =
+    stood _ _ _ c.requires _ _ c.next_token.ensures
     c.in-Time.is _ c.time_item.ensures
 
 pub returns-in-Text : goal.returns-in-Text
 unfolding numbered
-returns-in-Text c = stood _ _ _ c.requires _ _ c.next_token.ensures
+returns-in-Text c =
+    stood _ _ _ c.requires _ _ c.next_token.ensures
     c.in-Text.is _ c.item_of-in-Text.ensures
 
 pub returns-in-Sign : goal.returns-in-Sign
 unfolding numbered
-returns-in-Sign c = stood _ _ _ c.requires _ _ c.next_token.ensures
+returns-in-Sign c =
+    stood _ _ _ c.requires _ _ c.next_token.ensures
     c.in-Sign.is _ c.sign_item.ensures
 
 pub returns-in-Semicolon : goal.returns-in-Semicolon
 unfolding numbered
-returns-in-Semicolon c = stood _ _ _ c.requires _ _ c.next_token.ensures
+returns-in-Semicolon c =
+    stood _ _ _ c.requires _ _ c.next_token.ensures
     c.in-Semicolon.is _ c.item_of-in-Semicolon.ensures

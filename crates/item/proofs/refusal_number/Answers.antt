@@ -18,5 +18,6 @@ pub returns-in-26 : goal.returns-in-26
 returns-in-26 c = rw c.in-26.is
 
 pub returns-in_default : goal.returns-in_default
-returns-in_default c = let r = c.in_default.in_default-own.rest in
+returns-in_default c =
+    let r = c.in_default.in_default-own.rest in
     rw (ne_eqb _ 22 r.0.0.0.0.1, ne_eqb _ 23 r.0.0.0.1, ne_eqb _ 24 r.0.0.1, ne_eqb _ 25 r.0.1, ne_eqb _ 26 r.1)

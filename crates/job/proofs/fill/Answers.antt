@@ -9,7 +9,8 @@ pub loop-k-init : goal.loop-k-init
 loop-k-init c = let a = c.args in (paste-zero a.table.now a.at a.places.now, omega arith, refl)
 
 pub loop-k-preserved : goal.loop-k-preserved
-loop-k-preserved c = let l = c.loop-k in
+loop-k-preserved c =
+    let l = c.loop-k in
     let a = c.args in (
       rw (add-one l.k, l.invariant.0) (paste-suc a.table.now a.at a.places.now l.k 0 (omega arith) (omega arith)),
       omega arith,

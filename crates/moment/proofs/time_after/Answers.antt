@@ -20,7 +20,8 @@ unfolding time_after
 returns-in_default-field_after c = search moments depth 9
 
 pub overflow_add-after_hour-3 : goal.overflow_add-after_hour-3
-overflow_add-after_hour-3 c = let read = c.field_after.ensures in
+overflow_add-after_hour-3 c =
+    let read = c.field_after.ensures in
     omega (arith, read_room _ _ _ 2 _ _ (omega arith) read c.in-Field.is)
 
 pub returns-in_default-field_after-2 : goal.returns-in_default-field_after-2

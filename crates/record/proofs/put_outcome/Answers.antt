@@ -7,7 +7,8 @@ pub put_bytes-requires : goal.put_bytes-requires
 put_bytes-requires c = rw c.in-Processed.is at c.requires.1
 
 pub put_error-requires : goal.put_error-requires
-put_error-requires c = let o = c.in-Error.is in
+put_error-requires c =
+    let o = c.in-Error.is in
     let room = rw o at c.requires.1 in
     let range = error_range _ _ (rw o at c.requires.0) in
     (range.0, range.1, error_room _ _ _ _ room)

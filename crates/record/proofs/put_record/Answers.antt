@@ -8,11 +8,13 @@ use Rattle.record.proofs.Writes.{ranges, room_of, wrote_fields}
 use Rattle.record.proofs.put_record.Goals as goal
 
 pub put_after-after_number-requires : goal.put_after-after_number-requires
-put_after-after_number-requires c = let w = c.plain_width.ensures in
+put_after-after_number-requires c =
+    let w = c.plain_width.ensures in
     (omega (arith, ten_digits _ _ (omega arith) w), rw w (plain_fits c.args.number.0), omega (arith, room_of))
 
 pub put_outcome-start-requires : goal.put_outcome-start-requires
-put_outcome-start-requires c = let p = c.requires in
+put_outcome-start-requires c =
+    let p = c.requires in
     ((ranges _ _ _ _ p.range).outcome, omega (arith, room_of))
 
 pub put_bytes-end-requires : goal.put_bytes-end-requires
@@ -25,11 +27,13 @@ put_moment-after_moment-requires c = (
 )
 
 pub put_bytes-requires : goal.put_bytes-requires
-put_bytes-requires c = let a = c.args in
+put_bytes-requires c =
+    let a = c.args in
     omega (arith, room_of, wrote_length, length_moment a.date a.time)
 
 pub returns : goal.returns
-returns c = let w = c.plain_width.ensures in
+returns c =
+    let w = c.plain_width.ensures in
     let first = c.put_after-after_number.ensures in
     let second = c.put_outcome-start.ensures in
     let third = c.put_bytes-end.ensures in

@@ -6,7 +6,8 @@ use Rattle.record.proofs.Writes.{ranges, short_text, writes}
 use Rattle.record.proofs.write_refusal.Goals as goal
 
 pub record_length-requires : goal.record_length-requires
-record_length-requires c = let a = c.args in
+record_length-requires c =
+    let a = c.args in
     let range = sym c.in_range.ensures ∙ c.if-in_range.true in
     short_text a.text.now (ranges commands a.number.0 a.outcome a.text.now range).string
 

@@ -5,7 +5,8 @@ use borrow.Author.Rules.{rules}
 use Rattle.record_read.proofs.number_in.Goals as goal
 
 pub field_after-requires : goal.field_after-requires
-field_after-requires c = let width = between 1 8 _ c.if-width.true in
+field_after-requires c =
+    let width = between 1 8 _ c.if-width.true in
     (search rules, width.0, width.1)
 
 pub returns-in_default : goal.returns-in_default

@@ -13,7 +13,8 @@ pub overflow_add-end : goal.overflow_add-end
 overflow_add-end c = omega (arith, moment_room _ _ _ _ _ _ (omega arith) c.moment_after.ensures c.in-Moment.is)
 
 pub overflow_add-result : goal.overflow_add-result
-overflow_add-result c = let read = c.moment_after.ensures in
+overflow_add-result c =
+    let read = c.moment_after.ensures in
     omega (arith, moment_room _ _ _ _ _ _ (omega arith) read c.in-Moment.is)
 
 pub returns-then-has_at : goal.returns-then-has_at

@@ -10,7 +10,8 @@ pub shape_of-cells-in_default : goal.shape_of-cells-in_default
 shape_of-cells-in_default c = cells_length c.loop-at.invariant
 
 pub returns-in_default : goal.returns-in_default
-returns-in_default c = no_cell _ _ _ _ _ _ _ c.loop-at.invariant c.loop-at-test.true _
+returns-in_default c =
+    no_cell _ _ _ _ _ _ _ c.loop-at.invariant c.loop-at-test.true _
     c.cell_at.ensures c.in_default.is
 
 pub offset_bounds-cells-k : goal.offset_bounds-cells-k
@@ -75,7 +76,8 @@ overflow_add-k c = omega (
 )
 
 pub separator_at-requires : goal.separator_at-requires
-separator_at-requires c = (cell_ahead _ _ _ _ _ _ _ c.loop-at.invariant
+separator_at-requires c =
+    (cell_ahead _ _ _ _ _ _ _ c.loop-at.invariant
     c.loop-at-test.true _ c.cell_at.ensures _ c.in-End.is).1
 
 pub loop-at-smaller-in-Field : goal.loop-at-smaller-in-Field
@@ -88,7 +90,8 @@ loop-at-smaller-in-Field c = omega (
 )
 
 pub loop-at-preserved-in-Field : goal.loop-at-preserved-in-Field
-loop-at-preserved-in-Field c = cell_then_field _ _ _ _ _ _ _ c.loop-at.invariant
+loop-at-preserved-in-Field c =
+    cell_then_field _ _ _ _ _ _ _ c.loop-at.invariant
     c.loop-at-test.true _
     c.cell_at.ensures _ c.in-End.is _
     c.separator_at.ensures _ c.in-Field.is
@@ -103,7 +106,8 @@ loop-at-smaller c = omega (
 )
 
 pub loop-at-preserved : goal.loop-at-preserved
-loop-at-preserved c = cell_then_line _ _ _ _ _ _ _ c.loop-at.invariant
+loop-at-preserved c =
+    cell_then_line _ _ _ _ _ _ _ c.loop-at.invariant
     c.loop-at-test.true _
     c.cell_at.ensures _ c.in-End.is _
     c.separator_at.ensures _ c.in-Line.is
@@ -112,7 +116,8 @@ pub shape_of-cells-in-Neither : goal.shape_of-cells-in-Neither
 shape_of-cells-in-Neither c = simp length-set (cells_length c.loop-at.invariant)
 
 pub returns-in-Neither : goal.returns-in-Neither
-returns-in-Neither c = cell_last _ _ _ _ _ _ _ c.loop-at.invariant
+returns-in-Neither c =
+    cell_last _ _ _ _ _ _ _ c.loop-at.invariant
     c.loop-at-test.true _ c.cell_at.ensures _
     c.in-End.is _ c.separator_at.ensures c.in-Neither.is
 

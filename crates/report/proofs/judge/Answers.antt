@@ -13,7 +13,8 @@ lines_from-requires c = (
 )
 
 pub returns-then-n-le-COLUMNS : goal.returns-then-n-le-COLUMNS
-returns-then-n-le-COLUMNS c = names_then _ _ _ c.line_at.ensures _ _ c.in-Fields.is _
+returns-then-n-le-COLUMNS c =
+    names_then _ _ _ c.line_at.ensures _ _ c.in-Fields.is _
     c.if-n-le-COLUMNS.true c.lines_from.ensures
 
 pub returns : goal.returns

@@ -6,14 +6,16 @@ pub loop-at-init : goal.loop-at-init
 loop-at-init c = fields_start _ _ _ _
 
 pub returns-in_default : goal.returns-in_default
-returns-in_default c = no_field _ _ _ _ _ _ c.loop-at.invariant c.loop-at-test.true _
+returns-in_default c =
+    no_field _ _ _ _ _ _ c.loop-at.invariant c.loop-at-test.true _
     c.field_at.ensures c.in_default.is
 
 pub overflow_add-k : goal.overflow_add-k
 overflow_add-k c = omega (arith, c.loop-at.invariant.few)
 
 pub separator_at-requires : goal.separator_at-requires
-separator_at-requires c = (field_room _ _ _ _ _ _ c.loop-at.invariant
+separator_at-requires c =
+    (field_room _ _ _ _ _ _ c.loop-at.invariant
     c.loop-at-test.true _ c.field_at.ensures _ c.in-End.is).1
 
 pub loop-at-smaller : goal.loop-at-smaller
@@ -26,19 +28,22 @@ loop-at-smaller c = omega (
 )
 
 pub loop-at-preserved : goal.loop-at-preserved
-loop-at-preserved c = another _ _ _ _ _ _ c.loop-at.invariant
+loop-at-preserved c =
+    another _ _ _ _ _ _ c.loop-at.invariant
     c.loop-at-test.true _
     c.field_at.ensures _ c.in-End.is _
     c.separator_at.ensures _ c.in-Field.is
 
 pub returns-in-Line : goal.returns-in-Line
-returns-in-Line c = line_over _ _ _ _ _ _ c.loop-at.invariant
+returns-in-Line c =
+    line_over _ _ _ _ _ _ c.loop-at.invariant
     c.loop-at-test.true _
     c.field_at.ensures _ c.in-End.is _
     c.separator_at.ensures _ c.in-Line.is
 
 pub returns-in-Neither : goal.returns-in-Neither
-returns-in-Neither c = neither _ _ _ _ _ _ c.loop-at.invariant
+returns-in-Neither c =
+    neither _ _ _ _ _ _ c.loop-at.invariant
     c.loop-at-test.true _ c.field_at.ensures _
     c.in-End.is _ c.separator_at.ensures c.in-Neither.is
 

@@ -17,17 +17,20 @@ loop-at-smaller c = omega (
 )
 
 pub loop-at-preserved : goal.loop-at-preserved
-loop-at-preserved c = another_line _ c.requires.0 _ _ _ _ _
+loop-at-preserved c =
+    another_line _ c.requires.0 _ _ _ _ _
     c.loop-at.invariant c.loop-at-test.true _
     c.line_at.ensures _ _ c.in-Fields.is c.if-n-columns.true
 
 pub returns-else-n-columns : goal.returns-else-n-columns
-returns-else-n-columns c = other_count _ c.requires.0 _ _ _ _ _
+returns-else-n-columns c =
+    other_count _ c.requires.0 _ _ _ _ _
     c.loop-at.invariant c.loop-at-test.true _
     c.line_at.ensures _ _ c.in-Fields.is c.if-n-columns.false
 
 pub returns-in-NoLine : goal.returns-in-NoLine
-returns-in-NoLine c = no_line _ c.requires.0 _ _ _ _ _ c.loop-at.invariant
+returns-in-NoLine c =
+    no_line _ c.requires.0 _ _ _ _ _ c.loop-at.invariant
     c.loop-at-test.true _ c.line_at.ensures c.in-NoLine.is
 
 pub returns : goal.returns

@@ -30,7 +30,8 @@ pub fill-requires : goal.fill-requires
 fill-requires c = let h = whole_small _ (sym c.is_delimiter.ensures ∙ c.if-is_delimiter.true) _ _ _ (sym c.judge.ensures ∙ c.in-Whole.is) in omega (arith, h.cells)
 
 pub returns-then-columns-lines : goal.returns-then-columns-lines
-returns-then-columns-lines c = both _ c.args.file.now
+returns-then-columns-lines c =
+    both _ c.args.file.now
     c.args.cells.now _ _ _
     (has_room _ c.args.file.now _ _
     c.is_delimiter.ensures
@@ -40,7 +41,8 @@ returns-then-columns-lines c = both _ c.args.file.now
     c.fill.ensures
 
 pub returns-in-Whole : goal.returns-in-Whole
-returns-in-Whole c = both _ c.args.file.now
+returns-in-Whole c =
+    both _ c.args.file.now
     c.args.cells.now _ _ _
     (little_room _ c.args.file.now _ _
     c.is_delimiter.ensures c.if-is_delimiter.true _
@@ -48,13 +50,15 @@ returns-in-Whole c = both _ c.args.file.now
     (rw c.plain.ensures) refl
 
 pub returns-in-BreaksAt : goal.returns-in-BreaksAt
-returns-in-BreaksAt c = both _ c.args.file.now
+returns-in-BreaksAt c =
+    both _ c.args.file.now
     c.args.cells.now _ _ _
     (breaks_there _ c.args.file.now _ _
     c.is_delimiter.ensures c.if-is_delimiter.true _
     c.judge.ensures _ c.in-BreaksAt.is) refl refl
 
 pub returns : goal.returns
-returns c = both _ c.args.file.now c.args.cells.now _ _ _
+returns c =
+    both _ c.args.file.now c.args.cells.now _ _ _
     (no_delimiter _ c.args.file.now _ _ c.is_delimiter.ensures c.if-is_delimiter.false)
     (rw c.plain-2.ensures) refl

@@ -17,7 +17,8 @@ loop-k-preserved c = (
 )
 
 pub returns-else-is_cell : goal.returns-else-is_cell
-returns-else-is_cell c = cell_no _ _ _ _ _ _ c.loop-k.invariant.0 c.loop-k-test.true
+returns-else-is_cell c =
+    cell_no _ _ _ _ _ _ c.loop-k.invariant.0 c.loop-k-test.true
     c.is_cell.ensures c.if-is_cell.false
 
 pub returns : goal.returns

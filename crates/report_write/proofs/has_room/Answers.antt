@@ -14,14 +14,16 @@ overflow_add-needed-in-loop-k c = omega (
 )
 
 pub returns-then-free-needed : goal.returns-then-free-needed
-returns-then-free-needed c = no_room _ _ _ _ _ _ _ _ c.loop-k.invariant c.requires.0
+returns-then-free-needed c =
+    no_room _ _ _ _ _ _ _ _ c.loop-k.invariant c.requires.0
     c.loop-k-test.true _ c.separator_length.ensures c.if-free-needed.true
 
 pub left_after-left-requires : goal.left_after-left-requires
 left_after-left-requires c = c.loop-k.invariant.here.some
 
 pub loop-k-preserved : goal.loop-k-preserved
-loop-k-preserved c = room_next _ _ _ _ _ _ _ _ c.loop-k.invariant
+loop-k-preserved c =
+    room_next _ _ _ _ _ _ _ _ c.loop-k.invariant
     c.requires.0 c.loop-k-test.true _
     c.separator_length.ensures _ c.left_after-left.ensures c.if-free-needed.false
 

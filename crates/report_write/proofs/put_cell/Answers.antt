@@ -4,5 +4,6 @@ use Rattle.report_write.proofs.Loops.{handed_on}
 use Rattle.report_write.proofs.put_cell.Goals as goal
 
 pub returns : goal.returns
-returns c = then (as_bytes c.put_bytes-end.ensures (handed_on _ _ _))
+returns c =
+    then (as_bytes c.put_bytes-end.ensures (handed_on _ _ _))
     c.put_separator.ensures

@@ -6,7 +6,8 @@ pub loop-k-init : goal.loop-k-init
 loop-k-init c = written_start _ _ _ _ _ c.requires.0 c.requires.1
 
 pub put_cell-at-requires : goal.put_cell-at-requires
-put_cell-at-requires c = cell_fits _ _ _ _ _ _ _ _ _ _ c.loop-k.invariant
+put_cell-at-requires c =
+    cell_fits _ _ _ _ _ _ _ _ _ _ c.loop-k.invariant
     c.requires.0 c.loop-k-test.true
     c.requires.2
 
@@ -14,7 +15,8 @@ pub left_after-left-requires : goal.left_after-left-requires
 left_after-left-requires c = c.loop-k.invariant.here.some
 
 pub loop-k-preserved : goal.loop-k-preserved
-loop-k-preserved c = written_next _ _ _ _ _ _ _ _ _ _ c.loop-k.invariant
+loop-k-preserved c =
+    written_next _ _ _ _ _ _ _ _ _ _ c.loop-k.invariant
     c.requires.0
     c.loop-k-test.true _ _ _ c.left_after-left.ensures
     c.put_cell-at.ensures

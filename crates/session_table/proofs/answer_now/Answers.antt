@@ -11,12 +11,14 @@ get_table-hand-requires c = sound_size _ (answerable _ _ _ _ c.requires).sound
 
 pub overflow_sub-hand : goal.overflow_sub-hand
 unfolding table_of
-overflow_sub-hand c = let n = (answer_hand_lem _ _ _ _ (answerable _ _ _ _ c.requires) _ (ap (λ x. x.hand) c.get_table-hand.ensures)) in
+overflow_sub-hand c =
+    let n = (answer_hand_lem _ _ _ _ (answerable _ _ _ _ c.requires) _ (ap (λ x. x.hand) c.get_table-hand.ensures)) in
     search rules
 
 pub answer_slot-requires : goal.answer_slot-requires
 unfolding table_of
-answer_slot-requires c = let i =
+answer_slot-requires c =
+    let i =
     in_hand _ _ (ap (λ x. x.hand) c.get_table-hand.ensures) (answerable _ _ _ _ c.requires).sound
     (answer_hand_lem _ _ _ _ (answerable _ _ _ _ c.requires) _ (ap (λ x. x.hand) c.get_table-hand.ensures)) in (
       sound_size _ (answerable _ _ _ _ c.requires).sound,
@@ -27,12 +29,14 @@ answer_slot-requires c = let i =
     )
 
 pub put_hand-requires : goal.put_hand-requires
-put_hand-requires c = let z =
+put_hand-requires c =
+    let z =
     sound_size _ (answerable _ _ _ _ c.requires).sound in search rules
 
 pub returns : goal.returns
 unfolding paper_answered table_of
-returns c = let d =
+returns c =
+    let d =
     answer_done _ _ _ _ (answerable _ _ _ _ c.requires) _
     (ap (λ x. x.hand) c.get_table-hand.ensures) in let l = answer_leaves _ _ _ _
     (answerable _ _ _ _ c.requires) _

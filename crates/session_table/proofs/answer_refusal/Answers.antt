@@ -6,19 +6,22 @@ pub names_hand-requires : goal.names_hand-requires
 names_hand-requires c = sym c.is_sound.ensures ∙ c.if-is_sound.true
 
 pub returns-then-wrong : goal.returns-then-wrong
-returns-then-wrong c = answer_7 _ _ _ _ (sym c.is_sound.ensures
+returns-then-wrong c =
+    answer_7 _ _ _ _ (sym c.is_sound.ensures
     ∙ c.if-is_sound.true)
     (sym c.names_hand.ensures ∙ c.if-names_hand.true)
     (sym c.is_real-real.ensures ∙ c.if-real.true) (sym c.is_outcome-wrong.ensures ∙ c.if-wrong.true)
 
 pub returns-else-wrong : goal.returns-else-wrong
-returns-else-wrong c = answer_0 _ _ _ _ (sym c.is_sound.ensures
+returns-else-wrong c =
+    answer_0 _ _ _ _ (sym c.is_sound.ensures
     ∙ c.if-is_sound.true)
     (sym c.names_hand.ensures ∙ c.if-names_hand.true)
     (sym c.is_real-real.ensures ∙ c.if-real.true) (sym c.is_outcome-wrong.ensures ∙ c.if-wrong.false)
 
 pub returns-else-real : goal.returns-else-real
-returns-else-real c = answer_5 _ _ _ _ (sym c.is_sound.ensures ∙ c.if-is_sound.true)
+returns-else-real c =
+    answer_5 _ _ _ _ (sym c.is_sound.ensures ∙ c.if-is_sound.true)
     (sym c.names_hand.ensures ∙ c.if-names_hand.true)
     (sym c.is_real-real.ensures ∙ c.if-real.false)
 

@@ -11,17 +11,20 @@ pub ready_session-requires : goal.ready_session-requires
 ready_session-requires c = sound_limited _ c.requires.0
 
 pub returns-in_default : goal.returns-in_default
-returns-in_default c = let none-ready = found_none _ _ c.ready_session.ensures c.in_default.is in
+returns-in_default c =
+    let none-ready = found_none _ _ c.ready_session.ensures c.in_default.is in
     collect_refuses _ _ _ _ _ (collect_10 _ _ _ _ c.requires.0
     c.requires.1 none-ready) _ _ refl c.plain.ensures (λ z. omega arith)
 
 pub get_head-n-requires : goal.get_head-n-requires
-get_head-n-requires c = let pre = c.requires in
+get_head-n-requires c =
+    let pre = c.requires in
     let found = found_at _ _ c.ready_session.ensures _ c.in-At.is in
     (sound_size _ pre.0, (ready_stands _ _ _ pre.0 pre.1 _ found).below)
 
 pub reply_length-requires : goal.reply_length-requires
-reply_length-requires c = let pre = c.requires in
+reply_length-requires c =
+    let pre = c.requires in
     let found = found_at _ _ c.ready_session.ensures _ c.in-At.is in (
       sound_size _ pre.0,
       (ready_stands _ _ _ pre.0 pre.1 _ found).below,
@@ -29,7 +32,8 @@ reply_length-requires c = let pre = c.requires in
     )
 
 pub returns-then-out-reply_length : goal.returns-then-out-reply_length
-returns-then-out-reply_length c = let pre = c.requires in
+returns-then-out-reply_length c =
+    let pre = c.requires in
     let found = found_at _ _ c.ready_session.ensures _
     c.in-At.is in
     collect_refuses _ _ _ _ _
@@ -44,7 +48,8 @@ returns-then-out-reply_length c = let pre = c.requires in
     _ _ refl c.plain-then-out-reply_length.ensures (λ z. omega arith)
 
 pub write_reply-written-requires : goal.write_reply-written-requires
-write_reply-written-requires c = let pre = c.requires in
+write_reply-written-requires c =
+    let pre = c.requires in
     let found = found_at _ _ c.ready_session.ensures _
     c.in-At.is in
     let head = c.get_head-n.ensures in (
@@ -56,14 +61,16 @@ write_reply-written-requires c = let pre = c.requires in
     )
 
 pub open_number-requires : goal.open_number-requires
-open_number-requires c = let pre = c.requires in
+open_number-requires c =
+    let pre = c.requires in
     let found = found_at _ _
     c.ready_session.ensures _
     c.in-At.is in
     (sound_size _ pre.0, (ready_stands _ _ _ pre.0 pre.1 _ found).below)
 
 pub returns : goal.returns
-returns c = let pre = c.requires in
+returns c =
+    let pre = c.requires in
     let found = found_at _ _
     c.ready_session.ensures _ c.in-At.is in
     let reply = ready_reply _ _ _ pre.0 pre.1 _ found _

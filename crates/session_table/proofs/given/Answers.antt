@@ -11,5 +11,6 @@ lowest-command-requires c = waiting_head _ _ _ (waits _ c.requires.0 _ c.require
 
 pub returns : goal.returns
 unfolding paper_taken_up
-returns c = given_is _ _ _ (waits _ c.requires.0 _ c.requires.1)
+returns c =
+    given_is _ _ _ (waits _ c.requires.0 _ c.requires.1)
     c.get_head-h.ensures _ c.lowest-command.ensures

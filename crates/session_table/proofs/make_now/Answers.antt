@@ -7,11 +7,13 @@ pub fresh-requires : goal.fresh-requires
 fresh-requires c = make_low _ _ (make_passes _ _ _ c.requires c.if-found-eq0.true)
 
 pub put_table-requires : goal.put_table-requires
-put_table-requires c = ap length c.clear.ensures ∙ length-replicate _ 0 ∙ make_size _ _
+put_table-requires c =
+    ap length c.clear.ensures ∙ length-replicate _ 0 ∙ make_size _ _
     (make_passes _ _ _ c.requires c.if-found-eq0.true)
 
 pub returns-then-found-eq0 : goal.returns-then-found-eq0
-returns-then-found-eq0 c = cc (make_leaves _ _ (make_passes _ _ _ c.requires
+returns-then-found-eq0 c =
+    cc (make_leaves _ _ (make_passes _ _ _ c.requires
     c.if-found-eq0.true))
 
 pub returns-else-found-eq0 : goal.returns-else-found-eq0

@@ -21,10 +21,12 @@ get_head-requires c = (
 
 pub names-requires : goal.names-requires
 unfolding table_of
-names-requires c = waiting_head _ _ _ (in_hand _ _ (ap (λ x. x.hand) c.get_table-hand.ensures) c.requires
+names-requires c =
+    waiting_head _ _ _ (in_hand _ _ (ap (λ x. x.hand) c.get_table-hand.ensures) c.requires
     c.if-hand-eq0.false) c.get_head.ensures
 
 pub returns : goal.returns
 unfolding table_of
-returns c = names_is _ _ (ap (λ x. x.hand) c.get_table-hand.ensures) c.requires
+returns c =
+    names_is _ _ (ap (λ x. x.hand) c.get_table-hand.ensures) c.requires
     c.if-hand-eq0.false _ _ _ c.get_head.ensures _ c.names.ensures

@@ -11,7 +11,8 @@ place_lowest-requires c = (
 )
 
 pub returns-then-is_sound : goal.returns-then-is_sound
-returns-then-is_sound c = let no = place_11 _ _ _ (sym c.is_sound.ensures ∙ c.if-is_sound.true)
+returns-then-is_sound c =
+    let no = place_11 _ _ _ (sym c.is_sound.ensures ∙ c.if-is_sound.true)
     (sym c.is_placeable.ensures ∙ c.if-is_placeable.false) in
     place_refuses _ _ _ _ no _ c.plain.ensures (λ z. omega arith)
 

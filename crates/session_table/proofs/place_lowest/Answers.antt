@@ -12,7 +12,8 @@ pub lowest_open-requires : goal.lowest_open-requires
 lowest_open-requires c = sound_limited _ c.requires.0
 
 pub returns-in_default : goal.returns-in_default
-returns-in_default c = let none_open = found_none _ _ c.lowest_open.ensures c.in_default.is in
+returns-in_default c =
+    let none_open = found_none _ _ c.lowest_open.ensures c.in_default.is in
     place_refuses _ _ _ _ (place_9 _ _ _ c.requires.0
     c.requires.1 none_open) _ c.plain.ensures (λ z. omega arith)
 
@@ -21,7 +22,8 @@ get_table-requires c = sound_size _ c.requires.0
 
 pub returns-then-last-ge-TICKET_MOST : goal.returns-then-last-ge-TICKET_MOST
 unfolding table_of
-returns-then-last-ge-TICKET_MOST c = let spent = place_12 _ _ _ c.requires.0
+returns-then-last-ge-TICKET_MOST c =
+    let spent = place_12 _ _ _ c.requires.0
     c.requires.1 _
     (found_at _ _ c.lowest_open.ensures _
     c.in-At.is)
@@ -38,12 +40,14 @@ put_head-requires c = (
 )
 
 pub put_last-requires : goal.put_last-requires
-put_last-requires c = let z = sound_size _
+put_last-requires c =
+    let z = sound_size _
     c.requires.0 in search rules
 
 pub returns : goal.returns
 unfolding paper_placed table_of
-returns c = let pre = c.requires in
+returns c =
+    let pre = c.requires in
     let found =
     found_at _ _
     c.lowest_open.ensures _

@@ -19,14 +19,16 @@ take_up_next-requires c = (
 
 pub given-requires : goal.given-requires
 unfolding table_of
-given-requires c = let sound =
+given-requires c =
+    let sound =
     sym c.is_sound.ensures ∙ c.if-is_sound.true in let hand = ap (λ x. x.hand)
     c.get_table-hand.ensures in let left = c.if-hand-eq0.false in
     let ok = take_up_passes _ 0 (take_up_again _ sound (λ z. left (hand ∙ z))) refl in (sound, again_waits _ ok _ hand left)
 
 pub returns-then-is_sound : goal.returns-then-is_sound
 unfolding table_of
-returns-then-is_sound c = let sound =
+returns-then-is_sound c =
+    let sound =
     sym c.is_sound.ensures ∙ c.if-is_sound.true in let hand = ap
     (λ x. x.hand) c.get_table-hand.ensures in let left = c.if-hand-eq0.false in
     let ok = take_up_passes _ 0 (take_up_again _ sound (λ z. left (hand ∙ z))) refl in

@@ -19,9 +19,11 @@ overflow_add-s c = omega (
 )
 
 pub put_hand-requires : goal.put_hand-requires
-put_hand-requires c = let z =
+put_hand-requires c =
+    let z =
     sound_size _ (take_up_sound _ c.requires.0) in search rules
 
 pub returns : goal.returns
-returns c = let q = c.requires.3 in let l =
+returns c =
+    let q = c.requires.3 in let l =
     given_leaves _ _ q c.requires.1 in (cc, cc)

@@ -9,12 +9,14 @@ pub next_waiting-requires : goal.next_waiting-requires
 next_waiting-requires c = sound_limited _ c.requires.0
 
 pub returns-in_default : goal.returns-in_default
-returns-in_default c = take_up_refuses _ _ (take_up_14 _ c.requires.0
+returns-in_default c =
+    take_up_refuses _ _ (take_up_14 _ c.requires.0
     c.requires.1
     (found_none _ _ c.next_waiting.ensures c.in_default.is)) _ c.plain.ensures (λ z. omega arith)
 
 pub take_up_at-requires : goal.take_up_at-requires
-take_up_at-requires c = let (ok, waits, gives) =
+take_up_at-requires c =
+    let (ok, waits, gives) =
     take_up_0 _ c.requires.0 c.requires.1 _
     (found_at _ _ c.next_waiting.ensures _ c.in-At.is) in
     (ok, c.requires.1, waits, gives)

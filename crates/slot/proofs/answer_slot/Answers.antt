@@ -11,7 +11,8 @@ stored-requires c = omega (arith, ap (λ x. x.head.answered) c.get_slot.ensures)
 
 pub put_slot-requires : goal.put_slot-requires
 unfolding taken_out
-put_slot-requires c = let n = ap (λ x. x.head.answered) c.stored.ensures in
+put_slot-requires c =
+    let n = ap (λ x. x.head.answered) c.stored.ensures in
     let m = ap (λ x. x.head.answered) c.get_slot.ensures in
     let k = ap (λ x. kind_of x.entry.outcome) c.stored.ensures in
     (search rules, search rules, omega arith, omega arith, omega arith)

@@ -19,5 +19,6 @@ pub returns-in-Number-value-2 : goal.returns-in-Number-value-2
 returns-in-Number-value-2 c = rw (c.in-Text.is, c.in-Number-value-2.is)
 
 pub returns-in-Text-value-2 : goal.returns-in-Text-value-2
-returns-in-Text-value-2 c = rw (c.in-Text.is, c.in-Text-value-2.is)
+returns-in-Text-value-2 c =
+    rw (c.in-Text.is, c.in-Text-value-2.is)
     (c.by_same.ensures ∙ ap (λ (b : Bool). by_same (paper_operator c.args.o) b) c.is_same.ensures)

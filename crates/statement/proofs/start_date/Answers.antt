@@ -7,7 +7,8 @@ pub returns-then-t-eq-DATE : goal.returns-then-t-eq-DATE
 returns-then-t-eq-DATE c = reads start_date _ _ _ _ c.next_item-t.ensures.is (rw (← c.transferred.ensures) (search along depth 9))
 
 pub returns-then-t-eq-SEMICOLON : goal.returns-then-t-eq-SEMICOLON
-returns-then-t-eq-SEMICOLON c = reads start_date _ _ _ _ c.next_item-t.ensures.is
+returns-then-t-eq-SEMICOLON c =
+    reads start_date _ _ _ _ c.next_item-t.ensures.is
     (rw (← c.transferred-then-t-eq-SEMICOLON.ensures) (search along depth 9))
 
 pub returns-then-t-eq-UNREAL_DATE : goal.returns-then-t-eq-UNREAL_DATE

@@ -11,7 +11,8 @@ pub returns-then-t-eq-TIME_GE : goal.returns-then-t-eq-TIME_GE
 returns-then-t-eq-TIME_GE c = reads start_kind _ _ _ _ c.next_item-t.ensures.is (search choose depth 9)
 
 pub returns-then-t-eq-NAME : goal.returns-then-t-eq-NAME
-returns-then-t-eq-NAME c = reads start_kind _ _ _ _ c.next_item-t.ensures.is
+returns-then-t-eq-NAME c =
+    reads start_kind _ _ _ _ c.next_item-t.ensures.is
     (rw (← c.part_of.ensures) (search choose depth 9))
 
 pub returns : goal.returns

@@ -7,7 +7,8 @@ pub loop-i-init : goal.loop-i-init
 loop-i-init c = (omega arith, wrote_none _ _ _)
 
 pub put_answer-at-requires : goal.put_answer-at-requires
-put_answer-at-requires c = next_fits _ _ _ _ _ _ _ c.get_entry.ensures c.loop-i-test.true c.requires.2
+put_answer-at-requires c =
+    next_fits _ _ _ _ _ _ _ c.get_entry.ensures c.loop-i-test.true c.requires.2
     c.requires.3 (omega (arith, c.loop-i.invariant.1.next))
     (omega (arith, wrote_length c.loop-i.invariant.1, c.requires.4))
 

@@ -16,14 +16,16 @@ loop-i-init c = (omega arith, c.get_table-t.ensures, ap (λ x. x.max) c.get_tabl
 
 pub in_turn-s-requires : goal.in_turn-s-requires
 unfolding table_of
-in_turn-s-requires c = let m = ap (λ x. x.mark.0) c.loop-i.invariant.1 in
+in_turn-s-requires c =
+    let m = ap (λ x. x.mark.0) c.loop-i.invariant.1 in
     (omega (arith, c.requires.mark), omega arith, omega arith)
 
 pub get_head-requires : goal.get_head-requires
 get_head-requires c = (search rules, omega (arith, c.in_turn-s.ensures.1, c.requires.limit))
 
 pub returns-then-is_waiting : goal.returns-then-is_waiting
-returns-then-is_waiting c = turned_at _ _ c.loop-i.invariant.1 _ _ c.in_turn-s.ensures.0
+returns-then-is_waiting c =
+    turned_at _ _ c.loop-i.invariant.1 _ _ c.in_turn-s.ensures.0
     (find_hit _ _ c.loop-i.invariant.3
     (waiting_in_turn _ _ c.loop-i.invariant.1 _ _ c.in_turn-s.ensures.0
     (asked _ _ _ c.get_head.ensures (omega

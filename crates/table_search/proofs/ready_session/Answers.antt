@@ -11,7 +11,8 @@ unfolding table_of
 loop-s-init c = (omega arith, ap (λ x. x.max) c.get_table-max.ensures, find_none _)
 
 pub returns-then-is_ready : goal.returns-then-is_ready
-returns-then-is_ready c = sym (find_hit _ _ c.loop-s.invariant.2
+returns-then-is_ready c =
+    sym (find_hit _ _ c.loop-s.invariant.2
     (asked _ _ _ c.get_head.ensures (omega (arith, c.requires.limit)) (is_ready _ _)
     c.is_ready.ensures c.if-is_ready.true)
     (omega arith))

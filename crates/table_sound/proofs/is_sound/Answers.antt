@@ -9,7 +9,8 @@ pub sessions_are_sound-requires : goal.sessions_are_sound-requires
 sessions_are_sound-requires c = (search rules, c.get_table-t.ensures)
 
 pub returns-then-limits_are_sound : goal.returns-then-limits_are_sound
-returns-then-limits_are_sound c = sound_sessions _ (search rules) _ c.get_table-t.ensures _ c.limits_are_sound.ensures
+returns-then-limits_are_sound c =
+    sound_sessions _ (search rules) _ c.get_table-t.ensures _ c.limits_are_sound.ensures
     c.if-limits_are_sound.true _ c.sessions_are_sound.ensures
 
 pub returns : goal.returns

@@ -19,7 +19,8 @@ slot_is_sound-requires c = (
 )
 
 pub loop-s-preserved : goal.loop-s-preserved
-loop-s-preserved c = let w = c.loop-s.invariant in
+loop-s-preserved c =
+    let w = c.loop-s.invariant in
     let head = c.get_head-h.ensures in (
       omega arith,
       rw length-set w.1,
@@ -32,5 +33,6 @@ pub returns-else-slot_is_sound : goal.returns-else-slot_is_sound
 returns-else-slot_is_sound c = pass_stops _ _ _ c.loop-s-test.true _ c.slot_is_sound.ensures c.if-slot_is_sound.false
 
 pub returns : goal.returns
-returns c = let w = c.loop-s.invariant in
+returns c =
+    let w = c.loop-s.invariant in
     pass_ends _ _ _ w.3 (omega arith) _ w.4

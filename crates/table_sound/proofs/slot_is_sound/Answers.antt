@@ -19,16 +19,19 @@ answers_are_real-requires c = (
 )
 
 pub returns-then-is_new : goal.returns-then-is_new
-returns-then-is_new c = c.answers_are_real.ensures ∙ sound_answers c.requires _
+returns-then-is_new c =
+    c.answers_are_real.ensures ∙ sound_answers c.requires _
     c.is_open.ensures c.if-is_open.false _
     c.head_is_sound.ensures c.if-head_is_sound.true _
     c.is_new.ensures c.if-is_new.true
 
 pub returns-else-is_new : goal.returns-else-is_new
-returns-else-is_new c = sound_not_new c.requires _
+returns-else-is_new c =
+    sound_not_new c.requires _
     c.is_open.ensures c.if-is_open.false _
     c.head_is_sound.ensures c.if-head_is_sound.true _ c.is_new.ensures c.if-is_new.false
 
 pub returns-else-head_is_sound : goal.returns-else-head_is_sound
-returns-else-head_is_sound c = sound_no_head c.requires _ c.is_open.ensures c.if-is_open.false _
+returns-else-head_is_sound c =
+    sound_no_head c.requires _ c.is_open.ensures c.if-is_open.false _
     c.head_is_sound.ensures c.if-head_is_sound.false

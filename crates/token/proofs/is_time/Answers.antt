@@ -14,7 +14,8 @@ eight e a b c d f = rw (e, a, b, c, d, f)
 
 pub returns-then-e-i-eq8 : goal.returns-then-e-i-eq8
 unfolding is_time_at
-returns-then-e-i-eq8 c = eight c.if-e-i-eq8.true c.pair_at.ensures
+returns-then-e-i-eq8 c =
+    eight c.if-e-i-eq8.true c.pair_at.ensures
     (ap (λ b. eqb b 58) c.byte_at.ensures) c.pair_at-then-e-i-eq8.ensures
     (ap (λ b. eqb b 58) c.byte_at-then-e-i-eq8.ensures) c.pair_at-then-e-i-eq8-2.ensures
 

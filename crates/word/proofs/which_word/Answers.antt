@@ -13,7 +13,8 @@ returns-in-4 c = rw c.in-4.is (rw c.word_or-w.ensures at c.word_or-in-4.ensures)
 
 pub returns-in-5 : goal.returns-in-5
 unfolding which_word
-returns-in-5 c = rw c.in-5.is
+returns-in-5 c =
+    rw c.in-5.is
     (rw (
       c.word_or-w-in-5-3.ensures,
       c.word_or-w-in-5-2.ensures,
@@ -23,7 +24,8 @@ returns-in-5 c = rw c.in-5.is
 
 pub returns-in-6 : goal.returns-in-6
 unfolding which_word
-returns-in-6 c = rw c.in-6.is
+returns-in-6 c =
+    rw c.in-6.is
     (rw (c.word_or-w-in-6-2.ensures, c.word_or-w-in-6.ensures)
     at c.word_or-in-6.ensures)
 
@@ -41,7 +43,8 @@ returns-in-9 c = rw c.in-9.is c.word_or-in-9.ensures
 
 pub returns-in_default : goal.returns-in_default
 unfolding which_word
-returns-in_default c = let r = c.in_default.in_default-own.rest in
+returns-in_default c =
+    let r = c.in_default.in_default-own.rest in
     rw (
       ne_eqb _ 3 r.0.0.0.0.0.0.1,
       ne_eqb _ 4 r.0.0.0.0.0.1,

@@ -5,7 +5,8 @@ use Rattle.laws.proofs.Choose.{choose}
 use Rattle.c_numbers.proofs.starts.present_given.Goals as goal
 
 pub returns-then-kind-eq-OPERAND_NUMBER : goal.returns-then-kind-eq-OPERAND_NUMBER
-returns-then-kind-eq-OPERAND_NUMBER c = let a = c.args in
+returns-then-kind-eq-OPERAND_NUMBER c =
+    let a = c.args in
     present_number a.kind a.scale a.mantissa _ (to_z-of_z w64 a.mantissa c.ranges.mantissa) _ c.number_given.ensures
     c.if-kind-eq-OPERAND_NUMBER.true
 

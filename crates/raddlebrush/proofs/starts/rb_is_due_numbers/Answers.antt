@@ -8,7 +8,8 @@ use Rattle.raddlebrush.proofs.Handed.{gives_so}
 use Rattle.raddlebrush.proofs.starts.rb_is_due_numbers.Goals as goal
 
 pub returns : goal.returns
-returns c = let a = c.args in
+returns c =
+    let a = c.args in
     let m = to_z-of_z w64 a.mantissa c.ranges.mantissa in
     let v = to_z-of_z w64 a.value_mantissa c.ranges.value_mantissa in
     let operand = c.operand_given-operand.ensures ∙ ap (λ (z : ℤ). operand_given a.operand_kind a.operand_quote a.scale z) m in
