@@ -1,5 +1,7 @@
 -- The refusal numbers of documents 01 and 02 by name, each under its row.
 use Rattle.std.specs.Prelude.{ℕ}
+use Rattle.counts.specs.declared.Reason.{Reason}
+use Rattle.counts.specs.declared.Reason.TheVariants.{FileTooLong, TooFewPlaces, NoToken, Unexpected, NotReal, TooManyStatements, NotARecord, TooLittleRoom, AllTaken, NotTheOne, OutOfRange, NoTicketLeft, Unsound, NothingUnanswered, OpenString, BrokenString, Misshapen, EndOfFile, NotComparable}
 use Rattle.counts.specs.declared.Refusal.{Refusal}
 
 -- "job file over 65,535 bytes"
@@ -79,6 +81,28 @@ end_of_file = 18
 abbrev pub not_comparable : ℕ
 not_comparable = 19
 
+-- the number of a reason
+abbrev pub number_of : Reason → ℕ
+number_of FileTooLong = file_too_long
+number_of TooFewPlaces = too_few_places
+number_of NoToken = no_token
+number_of Unexpected = unexpected
+number_of NotReal = not_real
+number_of TooManyStatements = too_many_statements
+number_of NotARecord = not_a_record
+number_of TooLittleRoom = too_little_room
+number_of AllTaken = all_taken
+number_of NotTheOne = not_the_one
+number_of OutOfRange = out_of_range
+number_of NoTicketLeft = no_ticket_left
+number_of Unsound = unsound
+number_of NothingUnanswered = nothing_unanswered
+number_of OpenString = open_string
+number_of BrokenString = broken_string
+number_of Misshapen = misshapen
+number_of EndOfFile = end_of_file
+number_of NotComparable = not_comparable
+
 -- "A refusal returns its number, the place for 3 to 6 in a file (else 0)"; P2: "15 to 17 where 3 stood and 18 where 4 did"
-abbrev pub refusal : ℕ → ℕ → Refusal
-refusal number place = record { number = number; place = place }
+abbrev pub refusal : Reason → ℕ → Refusal
+refusal reason place = record { reason = reason; place = place }

@@ -8,13 +8,12 @@ use Rattle.decimal.specs.declared.DigitsRead.{DigitsRead}
 use Rattle.decimal.specs.declared.DigitsRead.TheVariants.{Value, NotDigits}
 use Rattle.counts.specs.Limits.{sessions}
 use Rattle.counts.specs.Refusals.{out_of_range, too_little_room}
-use Rattle.counts.specs.Result.{Result, refused, done, refused_as}
+use Rattle.counts.specs.Result.{Result, refused, done, paper}
+use Rattle.counts.specs.declared.Refusal.{Refusal}
+use Rattle.counts.specs.declared.SessionNumber.{SessionNumber}
+use Rattle.std.specs.declared.result.Result.{Result as Returned}
 use Rattle.session_name.specs.declared.Kind.{Kind}
 use Rattle.session_name.specs.declared.Kind.TheVariants.{Request, Response}
-use Rattle.session_name.specs.declared.NameRead.{NameRead}
-use Rattle.session_name.specs.declared.NameRead.TheVariants.{Named, Refused}
-use Rattle.session_name.specs.declared.NameWritten.{NameWritten}
-use Rattle.session_name.specs.declared.NameWritten.TheVariants.{Bytes, Refused as NotWritten}
 
 -- ".REQ or .RSP"
 abbrev pub ending : Kind → List ℕ
@@ -67,10 +66,8 @@ name_read max name = cond (is_framed max name) (number_read max name (digits_rea
 
 -- ---- the paper's number and values of each answer
 
-abbrev pub paper_name_read : NameRead → Result (ℕ × Kind)
-paper_name_read (Named n kind) = done (n.0, kind)
-paper_name_read (Refused r) = refused_as r
+abbrev pub paper_name_read : Returned (SessionNumber × Kind) Refusal → Result (ℕ × Kind)
+paper_name_read = paper λ named. (named.0.0, named.1)
 
-abbrev pub paper_name_written : NameWritten → Result ℕ
-paper_name_written (Bytes n) = done n
-paper_name_written (NotWritten r) = refused_as r
+abbrev pub paper_name_written : Returned ℕ Refusal → Result ℕ
+paper_name_written = paper λ n. n

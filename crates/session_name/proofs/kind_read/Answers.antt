@@ -13,4 +13,4 @@ returns-then-has_at-2 c = search names depth 9
 
 pub returns : goal.returns
 unfolding kind_read
-returns c = search names depth 9
+returns c = rw c.into.ensures (search names depth 9)

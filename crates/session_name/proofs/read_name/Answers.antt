@@ -9,4 +9,4 @@ returns-then-is_framed c = search names depth 9
 
 pub returns-else-is_framed : goal.returns-else-is_framed
 unfolding name_read
-returns-else-is_framed c = search names depth 9
+returns-else-is_framed c = rw c.into.ensures (search names depth 9)
