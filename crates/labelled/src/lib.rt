@@ -1,4 +1,5 @@
 // A fixed word and a number in decimal digits after it: read, and written.
+// Each field's answer is taken apart with let else, and not by `?`: 01 names that form for the reader of a record.
 #![tactic(auto)]
 
 ghost use Rattle.std.specs.Prelude.{◌≡◌, ◌+◌, ◌^◌, ◌≤◌, ◌<◌, length};

@@ -1,4 +1,5 @@
 // A date yyyymmdd and a time hhmmss as two numbers: whether they are real, which is later, and as they stand in a record, read and written.
+// Each field's answer is taken apart with let else, and not by `?`: 01 names that form for the reader of a record.
 #![tactic(auto)]
 
 ghost use Rattle.std.specs.Prelude.{◌≡◌, true, ◌++◌, ◌+◌, ◌*◌, ◌≤◌, ◌<◌, length};

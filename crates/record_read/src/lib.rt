@@ -1,4 +1,5 @@
 // Response records read: at a place of longer bytes, and as the whole of bytes.
+// Each field's answer is taken apart with let else, and not by `?`: 01 names that form for the reader of a record.
 #![tactic(auto)]
 
 ghost use Rattle.std.specs.Prelude.{◌≡◌, ◌+◌, ◌≤◌, length};
