@@ -1,3 +1,4 @@
 pub mod Limits
+pub mod Printed
 pub mod Refusals
 pub mod Result

@@ -1,8 +1,11 @@
 // The three counts, the limits and the refusals of documents 01 and 02. Each limit and each refusal number is said once here, and once in specs/.
 #![tactic(auto)]
 
-ghost use Rattle.std.specs.Prelude.{◌≡◌};
+ghost use Rattle.std.specs.Prelude.{◌≡◌, Some};
 ghost use Rattle.counts.specs.Refusals.{number_of, refusal};
+ghost use Rattle.counts.specs.Printed.{printed_refusal};
+
+use std::fmt;
 
 // "Session numbers, command numbers and tickets are three counts kept apart."
 #[derive(Clone, Copy, Debug, PartialEq, Eq, Hash)]
@@ -80,6 +83,17 @@ impl From<Reason> for Refusal {
 
     fn from(reason: Reason) -> Self {
         Refusal { reason, place: 0 }
+    }
+}
+
+// As the programs print it: the word of the listing program of document 01, the number and the place.
+impl fmt::Display for Refusal {
+    ghost output = { λ refusal. Some (printed_refusal refusal) };
+
+    fn fmt<W: fmt::Write>(&self, f: &mut fmt::Formatter<W>) -> fmt::Result {
+        let number = self.reason.number();
+        let place = self.place;
+        write!(f, "REFUSED {number} {place}")
     }
 }
 
