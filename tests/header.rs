@@ -94,16 +94,37 @@ fn rattle_calls(text: &str) -> Calls {
     calls
 }
 
-/// The constants of a source by their names, where their value is written out.
+/// A name in capitals, with _ between its words.
+fn capitals(name: &str) -> String {
+    let mut out = String::new();
+    for c in name.chars() {
+        if c.is_uppercase() && !out.is_empty() {
+            out.push('_');
+        }
+        out.push(c.to_ascii_uppercase());
+    }
+    out
+}
+
+/// The numbers of a source by their names: constants whose value is written out, and the cases of enums with a number each. A case is named
+/// by its enum and itself, and a reason by itself.
 fn rattle_constants(text: &str) -> BTreeMap<String, u64> {
-    let lines = text.lines().filter_map(|l| l.trim().strip_prefix("pub const "));
-    lines
-        .filter_map(|l| {
-            let (name, rest) = l.split_once(':')?;
-            let value = rest.split_once("= ")?.1.strip_suffix(';')?.parse().ok()?;
-            Some((name.to_string(), value))
-        })
-        .collect()
+    let mut numbers = BTreeMap::new();
+    let mut named = "";
+    for l in text.lines() {
+        let line = l.trim();
+        if let Some(name) = line.strip_prefix("pub enum ") {
+            named = name.strip_suffix(" {").expect("an enum over several lines");
+        } else if let Some((name, rest)) = line.strip_prefix("pub const ").and_then(|c| c.split_once(':')) {
+            let value = rest.split_once("= ").and_then(|(_, v)| v.strip_suffix(';')?.parse().ok());
+            numbers.extend(value.map(|v| (name.to_string(), v)));
+        } else if let Some((case, value)) = line.strip_suffix(',').and_then(|c| c.split_once(" = ")) {
+            let one_name = case.chars().all(char::is_alphanumeric) && case.starts_with(char::is_uppercase);
+            let name = if named == "Reason" { capitals(case) } else { format!("{}_{}", capitals(named), capitals(case)) };
+            numbers.extend(value.parse().ok().filter(|_| one_name).map(|v| (name, v)));
+        }
+    }
+    numbers
 }
 
 // ---- the header
