@@ -3,6 +3,7 @@
 
 ghost use Rattle.std.specs.Prelude.{◌≡◌, ◌+◌, ◌-◌, ◌≤◌, ◌<◌, length};
 ghost use Rattle.counts.specs.Limits.{file_bytes};
+ghost use Rattle.counts.specs.Refusals.{number_of as reason_number};
 ghost use Rattle.grammar.specs.Grammar.{class_no};
 ghost use Rattle.field.specs.Part.{part};
 ghost use Rattle.token.specs.Token.{Short};
@@ -13,7 +14,7 @@ ghost use Rattle.grammar.specs.Grammar.Class.{operator as operatorClass};
 ghost use Rattle.item.specs.Items.{no_token_no, refusal_no, zero, made_of, made, Seen, Stood};
 
 use calendar::{is_real_date, is_real_time};
-use counts::{BROKEN_STRING, END_OF_FILE, MISSHAPEN, NO_TOKEN, OPEN_STRING, UNEXPECTED};
+use counts::Reason;
 use decimal::{DigitsRead, digits_at};
 use number::{Number, number_at};
 use token::{Operator, Token, Why, next_token};
@@ -126,17 +127,17 @@ fn no_token_class(why: Why) -> u8
     }
 }
 
-// The number that an item is refused with where it may not stand.
-pub fn refusal_number(class: u8) -> u32
-    ensures { result ≡ refusal_no class }
+// Why an item is refused where it may not stand.
+pub fn refusal_reason(class: u8) -> Reason
+    ensures { reason_number result ≡ refusal_no class }
 {
     match class {
-        END => END_OF_FILE,
-        STRAY_CLASS => NO_TOKEN,
-        OPEN_STRING_CLASS => OPEN_STRING,
-        BROKEN_STRING_CLASS => BROKEN_STRING,
-        MISSHAPEN_CLASS => MISSHAPEN,
-        _ => UNEXPECTED,
+        END => Reason::EndOfFile,
+        STRAY_CLASS => Reason::NoToken,
+        OPEN_STRING_CLASS => Reason::OpenString,
+        BROKEN_STRING_CLASS => Reason::BrokenString,
+        MISSHAPEN_CLASS => Reason::Misshapen,
+        _ => Reason::Unexpected,
     }
 }
 

@@ -1,6 +1,6 @@
--- `item::refusal_number` meets its contract.
+-- `item::refusal_reason` meets its contract.
 use borrow.Author.Tests.{ne_eqb}
-use Rattle.item.proofs.refusal_number.Goals as goal
+use Rattle.item.proofs.refusal_reason.Goals as goal
 
 pub returns-in-22 : goal.returns-in-22
 returns-in-22 c = rw c.in-22.is
