@@ -2,6 +2,7 @@
 use Prim.Native.Nat.{ℕ, ◌+◌, ◌-◌}
 use mathlib.Core.Path.{◌≡◌, refl, sym, ◌∙◌, ap, ap₂}
 use native.Mathlib.Omega.{arith}
+use Rattle.std.specs.declared.option.Option.TheVariants.{Some, None}
 use Rattle.token.specs.declared.Operator.{Operator}
 use Rattle.token.specs.declared.Operator.TheVariants.{Equal, NotEqual, Above, Below, AtLeast, AtMost}
 use Rattle.grammar.specs.Statement as read
@@ -9,7 +10,6 @@ use Rattle.item.specs.Tokens.{paper_operator}
 use Rattle.statement.specs.declared.Part.{Part}
 use Rattle.statement.specs.declared.Source.{Source}
 use Rattle.statement.specs.declared.Source.TheVariants.{Active, File, Name}
-use Rattle.statement.specs.declared.Day.TheVariants.{Any, On}
 use Rattle.statement.specs.declared.Operand.{Operand}
 use Rattle.statement.specs.declared.Operand.TheVariants.{Number, Text}
 use Rattle.statement.specs.declared.Start.{Start}
@@ -42,8 +42,8 @@ operand (read.text quote) = Text quote
 
 start : read.Start → Start
 start read.immediate = Immediate
-start (read.at_time time) = At time Any
-start (read.at_time_on time date) = At time (On date)
+start (read.at_time time) = At time None
+start (read.at_time_on time date) = At time (Some date)
 start (read.when n o v) = condition (part n) (operator o) (operand v)
 
 statement : read.Statement → Statement
@@ -82,8 +82,8 @@ operand_back (Text quote) = refl
 start_back : (y : Start) → start (paper_start y) ≡ y
 unfolding start
 start_back Immediate = refl
-start_back (At time Any) = refl
-start_back (At time (On date)) = refl
+start_back (At time None) = refl
+start_back (At time (Some date)) = refl
 start_back (When c) = rw (part_back c.name, operator_back c.operator, operand_back c.operand)
 
 statement_back : (x : Statement) → statement (paper_statement x) ≡ x

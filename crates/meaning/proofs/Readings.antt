@@ -28,7 +28,7 @@ use Rattle.item.specs.declared.Item.{Item}
 use Rattle.item.proofs.Tells.{Tells, tells}
 use Rattle.statement.specs.declared.Source.{Source}
 use Rattle.statement.specs.declared.Source.TheVariants.{Active, File, Name}
-use Rattle.statement.specs.declared.Day.TheVariants.{Any, On}
+use Rattle.std.specs.declared.option.Option.TheVariants.{Some, None}
 use Rattle.statement.specs.declared.Operand.{Operand}
 use Rattle.statement.specs.declared.Operand.TheVariants.{Number, Text}
 use Rattle.statement.specs.declared.Start.{Start}
@@ -37,7 +37,7 @@ use Rattle.statement.specs.declared.Aborted.TheVariants.{Report, Event}
 use Rattle.statement.specs.declared.Statement.{Statement}
 use Rattle.statement.specs.declared.Statement.TheVariants.{Job, Upload, Download, GetInfo, Abort}
 use Rattle.statement.specs.declared.Transfer.{Transfer}
-use Rattle.statement.specs.declared.StatementRead.TheVariants.{Is}
+use Rattle.counts.specs.Result.Result.{done as whole}
 use Rattle.statement.specs.Statement.{part_of, condition, transferred, transfer, Held, read_from, statement_of}
 use Rattle.statement.proofs.Along.{is_whole, after, on_token, any_kind}
 use Rattle.meaning.specs.Paper.{paper_name, paper_source, paper_value, paper_start, paper_statement}
@@ -51,7 +51,7 @@ module _ (clause : StartClause) (s : List ℕ) where
       → read_from 0 s q h i ≡ read_from 0 s (step q c) (after q c (item_at 0 s i) h) u.end
   along q c i {u} h l e k = rw (k, l) at (on_token s q h (elsewhere q done done_alone (c ∷ []) refl l) i u e)
 
-  closes : (x : Statement) (i : ℕ) {u : Placed} → next_item s i ≡ item u → production.Is semicolon u → read_from 0 s ending x i ≡ Is x u.end
+  closes : (x : Statement) (i : ℕ) {u : Placed} → next_item s i ≡ item u → production.Is semicolon u → read_from 0 s ending x i ≡ whole (x, u.end)
   closes x i e k = along ending semicolon i x refl e k ∙ is_whole 0 s x _
 
   told : (i : ℕ) {u : Placed} → next_item s i ≡ item u → Tells (item_at 0 s i) u
@@ -84,7 +84,7 @@ module _ (clause : StartClause) (s : List ℕ) where
   record StartRead (m : Transfer) (i e : ℕ) (y : read.Start) : Type 0 where
     start : Start
     says : paper_start start ≡ y
-    reads : read_from 0 s (move_start clause) m i ≡ Is (transferred m start) e
+    reads : read_from 0 s (move_start clause) m i ≡ whole (transferred m start, e)
 
   start_read : (m : Transfer) {c : List Placed} {y : read.Start} → production.Start clause c y → (z : Placed) → production.Is semicolon z → {i e : ℕ}
       → After s i (c ++ (z ∷ [])) e → StartRead m i e y
@@ -98,7 +98,7 @@ module _ (clause : StartClause) (s : List ℕ) where
       }
   start_read m (at_time f g h) z j (then a (then b (then d (then k here)))) =
       record {
-        start = At _ Any;
+        start = At _ None;
         says = ap read.at_time (told _ d).moment;
         reads =
             along (move_start clause) START _ m refl a f
@@ -109,7 +109,7 @@ module _ (clause : StartClause) (s : List ℕ) where
       }
   start_read m (at_time_on f g h l) z j (then a (then b (then d (then k (then q here))))) =
       record {
-        start = At _ (On _);
+        start = At _ (Some _);
         says = ap₂ read.at_time_on (told _ d).moment (told _ k).moment;
         reads =
             along (move_start clause) START _ m refl a f
@@ -139,7 +139,7 @@ module _ (clause : StartClause) (s : List ℕ) where
     says_file : at ≡ file
     says_source : paper_source source ≡ x
     says_start : paper_start start ≡ y
-    reads : read_from 0 s (move_file clause) down i ≡ Is (transferred (transfer down at source) start) e
+    reads : read_from 0 s (move_file clause) down i ≡ whole (transferred (transfer down at source) start, e)
 
   move_read : (down : Bool) {f t : Placed} {c : List Placed} {x : read.Source} {y : read.Start} → production.Is string f → production.Source t x
       → production.Start clause c y → (z : Placed) → production.Is semicolon z → {i e : ℕ} → After s i (f ∷ t ∷ (c ++ (z ∷ []))) e
@@ -161,7 +161,7 @@ module _ (clause : StartClause) (s : List ℕ) where
   pub record StatementReads (i e : ℕ) (y : read.Statement) : Type 0 where
     pub statement : Statement
     pub says : paper_statement statement ≡ y
-    pub reads : statement_of 0 s clause (item_at 0 s i) ≡ Is statement e
+    pub reads : statement_of 0 s clause (item_at 0 s i) ≡ whole (statement, e)
 
   other_read : {a : List Placed} {y : read.Statement} → production.Other clause a y → (z : Placed) → production.Is semicolon z → {i e : ℕ}
       → After s i (a ++ (z ∷ [])) e

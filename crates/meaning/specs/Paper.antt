@@ -1,11 +1,11 @@
 -- Document 01's value of each case of a statement, in the grammar's terms.
 use Rattle.std.specs.Prelude.{◌+◌}
+use Rattle.std.specs.declared.option.Option.TheVariants.{Some, None}
 use Rattle.grammar.specs.Statement as read
 use Rattle.item.specs.Tokens.{paper_number, paper_operator}
 use Rattle.statement.specs.declared.Part.{Part}
 use Rattle.statement.specs.declared.Source.{Source}
 use Rattle.statement.specs.declared.Source.TheVariants.{Active, File, Name}
-use Rattle.statement.specs.declared.Day.TheVariants.{Any, On}
 use Rattle.statement.specs.declared.Operand.{Operand}
 use Rattle.statement.specs.declared.Operand.TheVariants.{Number, Text}
 use Rattle.statement.specs.declared.Start.{Start}
@@ -28,8 +28,8 @@ paper_value (Text quote) = read.text quote
 
 abbrev pub paper_start : Start → read.Start
 paper_start Immediate = read.immediate
-paper_start (At time Any) = read.at_time time
-paper_start (At time (On date)) = read.at_time_on time date
+paper_start (At time None) = read.at_time time
+paper_start (At time (Some date)) = read.at_time_on time date
 paper_start (When c) = read.when (paper_name c.name) (paper_operator c.operator) (paper_value c.operand)
 
 abbrev pub paper_statement : Statement → read.Statement

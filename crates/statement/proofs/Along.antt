@@ -7,7 +7,8 @@ use native.Mathlib.Omega.{arith}
 use borrow.Author.Tests.{ne_eqb}
 use lib.Dec.{eqb}
 use Rattle.laws.proofs.Choose.{and_left, and_right, choose}
-use Rattle.counts.specs.Refusals.{unexpected, not_real, refusal}
+use Rattle.counts.specs.Refusals.{unexpected, not_real}
+use Rattle.counts.specs.Result.Result.{refused, done as whole}
 use Rattle.grammar.specs.declared.StartClause.{StartClause}
 use Rattle.grammar.specs.Grammar.{Class, Point, Edge, Each, next, look, step, class_no, is_class, is_point, shape}
 use Rattle.grammar.specs.Grammar.Class.{date, unreal_date, time, unreal_time}
@@ -23,9 +24,7 @@ use Rattle.item.specs.declared.Item.{Item}
 use Rattle.item.proofs.Shows.{Shows, shows, no_token_numbers, token_number}
 use Rattle.item.proofs.Shows.Shows.{a_token, the_end, no_token_here}
 use Rattle.statement.specs.declared.Statement.{Statement}
-use Rattle.statement.specs.declared.StatementRead.{StatementRead}
-use Rattle.statement.specs.declared.StatementRead.TheVariants.{Is, Refused}
-use Rattle.statement.specs.Statement.{refuse, unexpected_at, otherwise, Begun, Held, Adds, adds, pick, on_item, or_whole, read_within, read_from, statement_of}
+use Rattle.statement.specs.Statement.{StatementRead, refuse, unexpected_at, otherwise, Begun, Held, Adds, adds, pick, on_item, or_whole, read_within, read_from, statement_of}
 
 -- ---- 8 tokens are enough
 
@@ -77,10 +76,10 @@ reads q base s h at e a =
     a ∙ ap (λ (u : Item). or_whole (Begun q) (is_point q done) h at (on_item q h u (λ p k. read_from base s p k u.next))) e ∙ sym (from base s q h at)
 
 -- and after its `;` the statement is whole
-pub is_whole : (base : ℕ) (s : List ℕ) (x : Statement) (at : ℕ) → read_from base s done x at ≡ Is x at
+pub is_whole : (base : ℕ) (s : List ℕ) (x : Statement) (at : ℕ) → read_from base s done x at ≡ whole (x, at)
 is_whole base s x at = from base s done x at
 
-pub reads_whole : (base : ℕ) (s : List ℕ) (x : Statement) (at : ℕ) (r : StatementRead) → r ≡ Is x at → r ≡ read_from base s done x at
+pub reads_whole : (base : ℕ) (s : List ℕ) (x : Statement) (at : ℕ) (r : StatementRead) → r ≡ whole (x, at) → r ≡ read_from base s done x at
 reads_whole base s x at r e = e ∙ sym (is_whole base s x at)
 
 pub ruleset along = (choose, reads_whole)
@@ -157,7 +156,7 @@ outside t n e l c = ne_eqb t.class (class_no c) (λ x. omega (arith, class_below
 abbrev pub on_placed : Point → Placed → StatementRead → StatementRead
 on_placed q u r =
     cond (is_point (step q u.class) dead)
-    (cond (is_point (step q (shape u.class)) dead) (Refused (refusal unexpected u.place)) (Refused (refusal not_real u.place))) r
+    (cond (is_point (step q (shape u.class)) dead) (refused unexpected u.place) (refused not_real u.place)) r
 
 module _ (s : List ℕ) (q : Point) (h : Held q) (o : is_point q done ≡ false) (i : ℕ) where
   abbrev rest : Item → (p : Point) → Held p → StatementRead
@@ -174,7 +173,7 @@ module _ (s : List ℕ) (q : Point) (h : Held q) (o : is_point q done ≡ false)
     where
       go : (b : Bool) → is_point (step q u.class) dead ≡ b
           → cond b (otherwise q t) (rest t (step q u.class) (after q u.class t h))
-          ≡ cond b (cond (is_point (step q (shape u.class)) dead) (Refused (refusal unexpected u.place)) (Refused (refusal not_real u.place)))
+          ≡ cond b (cond (is_point (step q (shape u.class)) dead) (refused unexpected u.place) (refused not_real u.place))
           (read_from 0 s (step q u.class) (after q u.class t h) u.end)
       go true d = refuses q t u.class ec d ∙ rw ep
       go false d = rw en
@@ -189,16 +188,16 @@ module _ (s : List ℕ) (q : Point) (h : Held q) (o : is_point q done ≡ false)
       ∙ pick_none q (item_at 0 s i) h (rest (item_at 0 s i)) (otherwise q (item_at 0 s i)) f (next q) (adds q)
       ∙ rw (f unreal_time, f unreal_date, and-false (not (is_point (step q time) dead)), and-false (not (is_point (step q date) dead)))
 
-  pub on_end : (p : ℕ) → next_item s i ≡ ended p → read_from 0 s q h i ≡ Refused (refusal end_number p)
+  pub on_end : (p : ℕ) → next_item s i ≡ ended p → read_from 0 s q h i ≡ refused end_number p
   on_end p e = go (rw e at (shows s i))
     where
-      go : Shows (item_at 0 s i) (ended p) → read_from 0 s q h i ≡ Refused (refusal end_number p)
+      go : Shows (item_at 0 s i) (ended p) → read_from 0 s q h i ≡ refused end_number p
       go (the_end c r) = no_edge (outside (item_at 0 s i) end_no c (omega arith)) ∙ rw (c, r)
 
-  pub on_no_token : (why : Why) (p : ℕ) → next_item s i ≡ no_token_next why p → read_from 0 s q h i ≡ Refused (refusal (no_token_number why) p)
+  pub on_no_token : (why : Why) (p : ℕ) → next_item s i ≡ no_token_next why p → read_from 0 s q h i ≡ refused (no_token_number why) p
   on_no_token why p e = go (rw e at (shows s i))
     where
-      go : Shows (item_at 0 s i) (no_token_next why p) → read_from 0 s q h i ≡ Refused (refusal (no_token_number why) p)
+      go : Shows (item_at 0 s i) (no_token_next why p) → read_from 0 s q h i ≡ refused (no_token_number why) p
       go (no_token_here c r) =
           no_edge (outside (item_at 0 s i) (no_token_no why) c (omega (arith, (no_token_numbers why).0))) ∙ rw (c, r, (no_token_numbers why).1)
 

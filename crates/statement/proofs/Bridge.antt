@@ -3,8 +3,8 @@ use Prim.Native.Nat.{ℕ}
 use mathlib.Core.Path.{◌≡◌, refl, sym, ◌∙◌, ap, subst}
 use mathlib.Core.Bool.{Bool, true, false, cond}
 use mathlib.Core.List.{List, [], ◌∷◌}
-use Rattle.counts.specs.Refusals.{unexpected, not_real, refusal}
-use Rattle.counts.specs.Result.Result.{refused}
+use Rattle.counts.specs.Refusals.{unexpected, not_real}
+use Rattle.counts.specs.Result.Result.{refused, done as whole}
 use Rattle.grammar.specs.declared.StartClause.{StartClause}
 use Rattle.grammar.specs.Grammar.{Point, step, is_point, shape}
 use Rattle.grammar.specs.Grammar.Point.{done, dead}
@@ -20,20 +20,18 @@ use Rattle.item.specs.Tokens.Next.{item}
 use Rattle.item.specs.Tokens.Tokens.{at_end_here, no_token_here, then}
 use Rattle.item.specs.Items.{item_at}
 use Rattle.statement.specs.declared.Statement.{Statement}
-use Rattle.statement.specs.declared.StatementRead.{StatementRead}
-use Rattle.statement.specs.declared.StatementRead.TheVariants.{Is, Refused}
-use Rattle.statement.specs.Statement.{Held, read_from}
+use Rattle.statement.specs.Statement.{StatementRead, Held, read_from}
 use Rattle.statement.proofs.Along.{is_whole, after, on_token, on_end, on_no_token}
 
 -- What holds of every reading from a point q on, of the tokens ts from the place i on, ended by z: it holds of a whole statement, where no token
 -- stands, where the token t is refused, and of t if it holds of what is read after it.
 pub record Holds (s : List ℕ) (R : Point → ℕ → List Placed → Last → StatementRead → Type 0) : Type 0 where
-  pub whole : (i : ℕ) (ts : List Placed) (z : Last) → Tokens s i ts z → (x : Statement) → R done i ts z (Is x i)
-  pub over : (q : Point) → is_point q done ≡ false → (i p : ℕ) → R q i [] (end p) (Refused (refusal end_number p))
+  pub whole : (i : ℕ) (ts : List Placed) (z : Last) → Tokens s i ts z → (x : Statement) → R done i ts z (whole (x, i))
+  pub over : (q : Point) → is_point q done ≡ false → (i p : ℕ) → R q i [] (end p) (refused end_number p)
   pub lost : (q : Point) → is_point q done ≡ false → (i : ℕ) (why : Why) (p : ℕ)
-      → R q i [] (no_token_at why p) (Refused (refusal (no_token_number why) p))
+      → R q i [] (no_token_at why p) (refused (no_token_number why) p)
   pub barred : (q : Point) → is_point q done ≡ false → (i : ℕ) (t : Placed) (ts : List Placed) (z : Last) → is_point (step q t.class) dead ≡ true
-      → (y : Bool) → is_point (step q (shape t.class)) dead ≡ y → R q i (t ∷ ts) z (Refused (refusal (cond y unexpected not_real) t.place))
+      → (y : Bool) → is_point (step q (shape t.class)) dead ≡ y → R q i (t ∷ ts) z (refused (cond y unexpected not_real) t.place)
   pub along : (q : Point) → is_point q done ≡ false → (i : ℕ) (t : Placed) (ts : List Placed) (z : Last) → next_item s i ≡ item t
       → is_point (step q t.class) dead ≡ false → (v : StatementRead) → R (step q t.class) t.end ts z v → R q i (t ∷ ts) z v
 
@@ -50,7 +48,7 @@ module _ (s : List ℕ) (R : Point → ℕ → List Placed → Last → Statemen
 
   at_token : (q : Point) → is_point q done ≡ false → (i : ℕ) (t : Placed) (ts : List Placed) (z : Last) → next_item s i ≡ item t → (v : StatementRead)
       → R (step q t.class) t.end ts z v → (x y : Bool) → is_point (step q t.class) dead ≡ x → is_point (step q (shape t.class)) dead ≡ y
-      → R q i (t ∷ ts) z (cond x (cond y (Refused (refusal unexpected t.place)) (Refused (refusal not_real t.place))) v)
+      → R q i (t ∷ ts) z (cond x (cond y (refused unexpected t.place) (refused not_real t.place)) v)
   at_token q o i t ts z n v r true true e f = holds.barred q o i t ts z e true f
   at_token q o i t ts z n v r true false e f = holds.barred q o i t ts z e false f
   at_token q o i t ts z n v r false y e f = holds.along q o i t ts z n e v r
@@ -67,8 +65,8 @@ module _ (s : List ℕ) (R : Point → ℕ → List Placed → Last → Statemen
 -- What a statement's answer says of the tokens ts from there on, ended by z: where it is whole, the reader goes on with the tokens
 -- after it, and where it is refused, that is the file's answer.
 abbrev pub Reads : StartClause → List ℕ → Point → List ℕ → List Placed → Last → StatementRead → Type 0
-Reads clause s q os ts z (Is x b) = (rest : List Placed) × Tokens s b rest z × close (moves clause (on q os) ts) z ≡ close (moves clause (on done os) rest) z
-Reads clause s q os ts z (Refused r) = close (moves clause (on q os) ts) z ≡ refused r.number r.place
+Reads clause s q os ts z (whole (x, b)) = (rest : List Placed) × Tokens s b rest z × close (moves clause (on q os) ts) z ≡ close (moves clause (on done os) rest) z
+Reads clause s q os ts z (refused n p) = close (moves clause (on q os) ts) z ≡ refused n p
 
 open_end : (q : Point) (os : List ℕ) (p : ℕ) → is_point q done ≡ false → at_end q os p ≡ refused end_number p
 open_end q [] p d = refl
@@ -86,8 +84,8 @@ barred_reads clause q o t ts z e false f os =
 carry : (clause : StartClause) (s : List ℕ) (q r : Point) (os : List ℕ) (l m : List Placed) (z : Last)
     → close (moves clause (on q os) l) z ≡ close (moves clause (on r os) m) z
     → (x : StatementRead) → Reads clause s r os m z x → Reads clause s q os l z x
-carry clause s q r os l m z e (Is x b) y = (y.0, y.1, e ∙ y.2)
-carry clause s q r os l m z e (Refused n) y = e ∙ y
+carry clause s q r os l m z e (whole (x, b)) y = (y.0, y.1, e ∙ y.2)
+carry clause s q r os l m z e (refused n p) y = e ∙ y
 
 -- a statement's rest, from the point q on
 pub rest_reads : (clause : StartClause) (s : List ℕ) {i : ℕ} {ts : List Placed} {z : Last} → Tokens s i ts z → (q : Point) (h : Held q) (os : List ℕ)

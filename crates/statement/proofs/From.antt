@@ -10,8 +10,7 @@ use Rattle.grammar.specs.Grammar.Point.{statement, done}
 use Rattle.item.specs.Items.{item_at}
 use Rattle.item.specs.declared.Item.{Item}
 use Rattle.item.proofs.Shows.{onward, from_there}
-use Rattle.statement.specs.declared.StatementRead.{StatementRead}
-use Rattle.statement.specs.Statement.{Begun, Held, on_item, read_within, read_from, statement_of}
+use Rattle.statement.specs.Statement.{StatementRead, Begun, Held, on_item, read_within, read_from, statement_of}
 use Rattle.statement.proofs.Along.{while_open, on_alike}
 
 module _ (o : ℕ) (s : List ℕ) (inside : o ≤ length s) where

@@ -2,7 +2,7 @@
 use mathlib.Core.Path.{◌≡◌, refl, ◌∙◌}
 use mathlib.Core.Bool.{Bool, true, false, cond, ◌||◌, ◌&&◌}
 use Rattle.laws.proofs.Choose.{choose}
-use Rattle.statement.specs.declared.StatementRead.{StatementRead}
+use Rattle.statement.specs.Statement.{StatementRead}
 
 -- three tests for one answer x, and the last of them once more where none holds
 one_of_three : (a b d u e : Bool) (x y z r : StatementRead)

@@ -2,7 +2,11 @@
 -- is held of the statement. The bytes s are those of the file from the place base on, and places are counted from the file's start. Need not be
 -- believed: what the productions read is read so (`meaning`), and it is refused where 01's rows say (`job_claims`).
 use Rattle.std.specs.Prelude.{ℕ, zero, suc, Bool, true, false, cond, not, ◌&&◌, ◌||◌, List, [], ◌∷◌, eqb}
-use Rattle.counts.specs.Refusals.{unexpected, not_real, refusal}
+use Rattle.std.specs.declared.result.Result.{Result as Returned}
+use Rattle.std.specs.declared.option.Option.TheVariants.{Some, None}
+use Rattle.counts.specs.Refusals.{unexpected, not_real}
+use Rattle.counts.specs.Result.{Result, refused, done as whole, paper}
+use Rattle.counts.specs.declared.Refusal.{Refusal}
 use Rattle.token.specs.declared.Operator.{Operator}
 use Rattle.grammar.specs.declared.StartClause.{StartClause}
 use Rattle.grammar.specs.declared.StartClause.TheVariants.{Required, Optional}
@@ -14,7 +18,6 @@ use Rattle.item.specs.declared.Item.{Item}
 use Rattle.statement.specs.declared.Part.{Part}
 use Rattle.statement.specs.declared.Source.{Source}
 use Rattle.statement.specs.declared.Source.TheVariants.{Active, File, Name}
-use Rattle.statement.specs.declared.Day.TheVariants.{Any, On}
 use Rattle.statement.specs.declared.Operand.{Operand}
 use Rattle.statement.specs.declared.Operand.TheVariants.{Number, Text}
 use Rattle.statement.specs.declared.Start.{Start}
@@ -24,14 +27,20 @@ use Rattle.statement.specs.declared.Aborted.TheVariants.{Report, Event}
 use Rattle.statement.specs.declared.Statement.{Statement}
 use Rattle.statement.specs.declared.Statement.TheVariants.{Job, Upload, Download, GetInfo, Abort}
 use Rattle.statement.specs.declared.Transfer.{Transfer}
-use Rattle.statement.specs.declared.StatementRead.{StatementRead}
-use Rattle.statement.specs.declared.StatementRead.TheVariants.{Is, Refused}
+
+-- a statement and the place after its `;`, or the refusal
+abbrev pub StatementRead : Type 0
+StatementRead = Result (Statement × ℕ)
+
+-- the paper's value of each answer
+abbrev pub paper_read : Returned (Statement × ℕ) Refusal → StatementRead
+paper_read = paper (λ r. r)
 
 -- ---- what is refused
 
 -- "A token's place is its first byte"
 abbrev pub refuse : ℕ → Item → StatementRead
-refuse n t = Refused (refusal n t.place)
+refuse n t = refused n t.place
 
 -- what may not stand: the end of the file, no token, or a token
 abbrev pub unexpected_at : Item → StatementRead
@@ -126,7 +135,7 @@ adds (move_start clause) = (λ t m. m, adds_no_clause clause)
 -- START IMMEDIATE; START TIME>= time with an optional date; START name, operator, then number or string.
 adds start_kind = (λ t m. transferred m Immediate, (λ t m. m, (λ t m. (m, part_of t), tt)))
 adds start_time = (λ t m. (m, t.value), tt)
-adds start_date = (λ t h. transferred h.0 (At h.1 (On t.value)), (λ t h. transferred h.0 (At h.1 Any), tt))
+adds start_date = (λ t h. transferred h.0 (At h.1 (Some t.value)), (λ t h. transferred h.0 (At h.1 None), tt))
 adds start_operator = (λ t h. (h.0, h.1, t.operator), tt)
 adds start_value = (
   valued (λ t. Number t.number),
@@ -154,7 +163,7 @@ on_item q h t k = pick q (next q) (adds q) t h k (otherwise q t)
 
 -- a statement is whole after its `;`
 abbrev pub or_whole : (A : Type 0) (b : Bool) → cond b Statement A → ℕ → StatementRead → StatementRead
-or_whole A true x at r = Is x at
+or_whole A true x at r = whole (x, at)
 or_whole A false h at r = r
 
 module _ (base : ℕ) (s : List ℕ) where

@@ -2,40 +2,35 @@
 #![tactic(auto)]
 
 ghost use Rattle.std.specs.Prelude.{◌≡◌};
+ghost use Rattle.counts.specs.Refusals.{number_of};
+ghost use Rattle.counts.specs.Result.{refused_as};
 ghost use Rattle.item.specs.Items.{Seen};
 ghost use Rattle.grammar.specs.Grammar.Point.{ending, job_name, job_response, job_file, move_file, move_source, move_start, start_kind, start_time, start_date, start_operator, start_value, info_file, abort_kind, abort_name};
-ghost use Rattle.statement.specs.Statement.{refuse, unexpected_at, part_of, condition, transferred, transfer, is_number_no, read_from, statement_of};
+ghost use Rattle.statement.specs.Statement.{refuse, unexpected_at, part_of, condition, transferred, transfer, is_number_no, paper_read, read_from, statement_of};
 
-use counts::{NOT_REAL, Refusal};
+use counts::{Reason, Refusal};
 use grammar::StartClause;
 use item::{
     ABORT, ACTIVE, DATE, DOWNLOAD, EVENT, GETINFO, IMMEDIATE, Item, JOB, NAME, NUMBER, OPERATOR,
     REPORT, RESPONSE, SEMICOLON, START, STRING, TIME, TIME_GE, UNREAL_DATE, UNREAL_TIME, UPLOAD,
-    next_item, refusal_number,
+    next_item, refusal_reason,
 };
 use number::Number;
 use token::Operator;
 
 // A part of the file: the place of its first byte, and its length. A name is held so.
-#[derive(Clone, Copy)]
+#[derive(Clone, Copy, Debug, PartialEq, Eq, Hash)]
 pub struct Part {
     pub place: usize,
     pub length: usize,
 }
 
 // What is moved: the active set, a file spec by the place of its opening quote, or a name.
-#[derive(Clone, Copy)]
+#[derive(Clone, Copy, Debug, PartialEq, Eq, Hash)]
 pub enum Source {
     Active,
     File(usize),
     Name(Part),
-}
-
-// The optional date of a time, yyyymmdd.
-#[derive(Clone, Copy)]
-pub enum Day {
-    Any,
-    On(u32),
 }
 
 // A number, or a string by the place of its opening quote.
@@ -52,15 +47,15 @@ pub struct Condition {
     pub operand: Operand,
 }
 
-// A start clause is one of three; a missing one, where it may be missing, reads as the first. A time is hhmmss.
+// A start clause is one of three; a missing one, where it may be missing, reads as the first. A time is hhmmss, and its optional date yyyymmdd.
 #[derive(Clone, Copy)]
 pub enum Start {
     Immediate,
-    At(u32, Day),
+    At(u32, Option<u32>),
     When(Condition),
 }
 
-#[derive(Clone, Copy)]
+#[derive(Clone, Copy, Debug, PartialEq, Eq, Hash)]
 pub enum Aborted {
     Report,
     Event,
@@ -92,13 +87,6 @@ pub enum Statement {
     },
 }
 
-// A statement and the place after its ;, or why there is none.
-#[derive(Clone, Copy)]
-pub enum StatementRead {
-    Is(Statement, usize),
-    Refused(Refusal),
-}
-
 // An UPLOAD or DOWNLOAD up to its start clause.
 #[derive(Clone, Copy)]
 pub struct Transfer {
@@ -107,20 +95,20 @@ pub struct Transfer {
     pub source: Source,
 }
 
-fn refuse(number: u32, t: Item) -> StatementRead
-    ensures { result ≡ refuse number t }
+fn refuse(reason: Reason, t: Item) -> Refusal
+    ensures { refused_as result ≡ refuse (number_of reason) t }
 {
-    StatementRead::Refused(Refusal {
-        number,
+    Refusal {
+        reason,
         place: t.place,
-    })
+    }
 }
 
 // What may not stand: the end of the file, no token, or a token.
-fn unexpected(t: Item) -> StatementRead
-    ensures { result ≡ unexpected_at t }
+fn unexpected(t: Item) -> Refusal
+    ensures { refused_as result ≡ unexpected_at t }
 {
-    refuse(refusal_number(t.class), t)
+    refuse(refusal_reason(t.class), t)
 }
 
 fn part_of(t: Item) -> Part
@@ -172,21 +160,21 @@ fn transfer_of(download: bool, file: usize, source: Source) -> Transfer
 }
 
 // The ; that ends a statement.
-fn ending(s: &[u8], base: usize, at: usize, x: Statement) -> StatementRead
+fn ending(s: &[u8], base: usize, at: usize, x: Statement) -> Result<(Statement, usize), Refusal>
     requires { Seen base s.now at }
-    ensures { result ≡ read_from base s.now ending x at }
+    ensures { paper_read result ≡ read_from base s.now ending x at }
 {
     let t = next_item(s, base, at);
     if t.class == SEMICOLON {
-        return StatementRead::Is(x, t.next);
+        return Ok((x, t.next));
     }
-    unexpected(t)
+    Err(unexpected(t))
 }
 
 // JOB, name, RESPONSE: the file spec.
-fn job_file(s: &[u8], base: usize, at: usize, name: Part) -> StatementRead
+fn job_file(s: &[u8], base: usize, at: usize, name: Part) -> Result<(Statement, usize), Refusal>
     requires { Seen base s.now at }
-    ensures { result ≡ read_from base s.now job_file name at }
+    ensures { paper_read result ≡ read_from base s.now job_file name at }
 {
     let t = next_item(s, base, at);
     if t.class == STRING {
@@ -196,31 +184,31 @@ fn job_file(s: &[u8], base: usize, at: usize, name: Part) -> StatementRead
         };
         return ending(s, base, t.next, x);
     }
-    unexpected(t)
+    Err(unexpected(t))
 }
 
 // JOB, name: RESPONSE.
-fn job_response(s: &[u8], base: usize, at: usize, name: Part) -> StatementRead
+fn job_response(s: &[u8], base: usize, at: usize, name: Part) -> Result<(Statement, usize), Refusal>
     requires { Seen base s.now at }
-    ensures { result ≡ read_from base s.now job_response name at }
+    ensures { paper_read result ≡ read_from base s.now job_response name at }
 {
     let t = next_item(s, base, at);
     if t.class == RESPONSE {
         return job_file(s, base, t.next, name);
     }
-    unexpected(t)
+    Err(unexpected(t))
 }
 
 // JOB: its name.
-fn job_name(s: &[u8], base: usize, at: usize) -> StatementRead
+fn job_name(s: &[u8], base: usize, at: usize) -> Result<(Statement, usize), Refusal>
     requires { Seen base s.now at }
-    ensures { result ≡ read_from base s.now job_name tt at }
+    ensures { paper_read result ≡ read_from base s.now job_name tt at }
 {
     let t = next_item(s, base, at);
     if t.class == NAME {
         return job_response(s, base, t.next, part_of(t));
     }
-    unexpected(t)
+    Err(unexpected(t))
 }
 
 // Whether a class is a number's: eight bare digits are a number too.
@@ -238,9 +226,9 @@ fn start_value(
     m: Transfer,
     name: Part,
     o: Operator,
-) -> StatementRead
+) -> Result<(Statement, usize), Refusal>
     requires { Seen base s.now at }
-    ensures { result ≡ read_from base s.now start_value (m, name, o) at }
+    ensures { paper_read result ≡ read_from base s.now start_value (m, name, o) at }
 {
     let t = next_item(s, base, at);
     if is_number(t.class) {
@@ -252,60 +240,60 @@ fn start_value(
         let start = start_when(name, o, Operand::Text(t.place));
         return ending(s, base, t.next, transferred(m, start));
     }
-    unexpected(t)
+    Err(unexpected(t))
 }
 
 // START name: the operator.
-fn start_operator(s: &[u8], base: usize, at: usize, m: Transfer, name: Part) -> StatementRead
+fn start_operator(s: &[u8], base: usize, at: usize, m: Transfer, name: Part) -> Result<(Statement, usize), Refusal>
     requires { Seen base s.now at }
-    ensures { result ≡ read_from base s.now start_operator (m, name) at }
+    ensures { paper_read result ≡ read_from base s.now start_operator (m, name) at }
 {
     let t = next_item(s, base, at);
     if t.class == OPERATOR {
         let o = t.operator;
         return start_value(s, base, t.next, m, name, o);
     }
-    unexpected(t)
+    Err(unexpected(t))
 }
 
 // START TIME>= time: an optional date.
-fn start_date(s: &[u8], base: usize, at: usize, m: Transfer, clock: u32) -> StatementRead
+fn start_date(s: &[u8], base: usize, at: usize, m: Transfer, clock: u32) -> Result<(Statement, usize), Refusal>
     requires { Seen base s.now at }
-    ensures { result ≡ read_from base s.now start_date (m, clock) at }
+    ensures { paper_read result ≡ read_from base s.now start_date (m, clock) at }
 {
     let t = next_item(s, base, at);
     if t.class == DATE {
-        let start = Start::At(clock, Day::On(t.value));
+        let start = Start::At(clock, Some(t.value));
         return ending(s, base, t.next, transferred(m, start));
     }
     if t.class == SEMICOLON {
-        return StatementRead::Is(transferred(m, Start::At(clock, Day::Any)), t.next);
+        return Ok((transferred(m, Start::At(clock, None)), t.next));
     }
     if t.class == UNREAL_DATE {
-        return refuse(NOT_REAL, t);
+        return Err(refuse(Reason::NotReal, t));
     }
-    unexpected(t)
+    Err(unexpected(t))
 }
 
 // START TIME>=: the time.
-fn start_time(s: &[u8], base: usize, at: usize, m: Transfer) -> StatementRead
+fn start_time(s: &[u8], base: usize, at: usize, m: Transfer) -> Result<(Statement, usize), Refusal>
     requires { Seen base s.now at }
-    ensures { result ≡ read_from base s.now start_time m at }
+    ensures { paper_read result ≡ read_from base s.now start_time m at }
 {
     let t = next_item(s, base, at);
     if t.class == TIME {
         return start_date(s, base, t.next, m, t.value);
     }
     if t.class == UNREAL_TIME {
-        return refuse(NOT_REAL, t);
+        return Err(refuse(Reason::NotReal, t));
     }
-    unexpected(t)
+    Err(unexpected(t))
 }
 
 // START: what it waits for.
-fn start_kind(s: &[u8], base: usize, at: usize, m: Transfer) -> StatementRead
+fn start_kind(s: &[u8], base: usize, at: usize, m: Transfer) -> Result<(Statement, usize), Refusal>
     requires { Seen base s.now at }
-    ensures { result ≡ read_from base s.now start_kind m at }
+    ensures { paper_read result ≡ read_from base s.now start_kind m at }
 {
     let t = next_item(s, base, at);
     if t.class == IMMEDIATE {
@@ -317,25 +305,25 @@ fn start_kind(s: &[u8], base: usize, at: usize, m: Transfer) -> StatementRead
     if t.class == NAME {
         return start_operator(s, base, t.next, m, part_of(t));
     }
-    unexpected(t)
+    Err(unexpected(t))
 }
 
 // A start clause, or the ; that stands where a missing one would begin.
-fn move_start(s: &[u8], base: usize, at: usize, clause: StartClause, m: Transfer) -> StatementRead
+fn move_start(s: &[u8], base: usize, at: usize, clause: StartClause, m: Transfer) -> Result<(Statement, usize), Refusal>
     requires { Seen base s.now at }
-    ensures { result ≡ read_from base s.now (move_start clause) m at }
+    ensures { paper_read result ≡ read_from base s.now (move_start clause) m at }
 {
     let t = next_item(s, base, at);
     if t.class == START {
         return start_kind(s, base, t.next, m);
     }
     match clause {
-        StartClause::Required => unexpected(t),
+        StartClause::Required => Err(unexpected(t)),
         StartClause::Optional => {
             if t.class == SEMICOLON {
-                return StatementRead::Is(transferred(m, Start::Immediate), t.next);
+                return Ok((transferred(m, Start::Immediate), t.next));
             }
-            unexpected(t)
+            Err(unexpected(t))
         }
     }
 }
@@ -348,9 +336,9 @@ fn move_source(
     clause: StartClause,
     download: bool,
     file: usize,
-) -> StatementRead
+) -> Result<(Statement, usize), Refusal>
     requires { Seen base s.now at }
-    ensures { result ≡ read_from base s.now (move_source clause) (download, file) at }
+    ensures { paper_read result ≡ read_from base s.now (move_source clause) (download, file) at }
 {
     let t = next_item(s, base, at);
     if t.class == ACTIVE {
@@ -380,37 +368,37 @@ fn move_source(
             transfer_of(download, file, Source::Name(part_of(t))),
         );
     }
-    unexpected(t)
+    Err(unexpected(t))
 }
 
 // UPLOAD or DOWNLOAD: the file spec.
-fn move_file(s: &[u8], base: usize, at: usize, clause: StartClause, download: bool) -> StatementRead
+fn move_file(s: &[u8], base: usize, at: usize, clause: StartClause, download: bool) -> Result<(Statement, usize), Refusal>
     requires { Seen base s.now at }
-    ensures { result ≡ read_from base s.now (move_file clause) download at }
+    ensures { paper_read result ≡ read_from base s.now (move_file clause) download at }
 {
     let t = next_item(s, base, at);
     if t.class == STRING {
         return move_source(s, base, t.next, clause, download, t.place);
     }
-    unexpected(t)
+    Err(unexpected(t))
 }
 
 // GETINFO: the file spec.
-fn info_file(s: &[u8], base: usize, at: usize) -> StatementRead
+fn info_file(s: &[u8], base: usize, at: usize) -> Result<(Statement, usize), Refusal>
     requires { Seen base s.now at }
-    ensures { result ≡ read_from base s.now info_file tt at }
+    ensures { paper_read result ≡ read_from base s.now info_file tt at }
 {
     let t = next_item(s, base, at);
     if t.class == STRING {
         return ending(s, base, t.next, Statement::GetInfo { file: t.place });
     }
-    unexpected(t)
+    Err(unexpected(t))
 }
 
 // ABORT, REPORT or EVENT: the name.
-fn abort_name(s: &[u8], base: usize, at: usize, what: Aborted) -> StatementRead
+fn abort_name(s: &[u8], base: usize, at: usize, what: Aborted) -> Result<(Statement, usize), Refusal>
     requires { Seen base s.now at }
-    ensures { result ≡ read_from base s.now abort_name what at }
+    ensures { paper_read result ≡ read_from base s.now abort_name what at }
 {
     let t = next_item(s, base, at);
     if t.class == NAME {
@@ -420,13 +408,13 @@ fn abort_name(s: &[u8], base: usize, at: usize, what: Aborted) -> StatementRead
         };
         return ending(s, base, t.next, x);
     }
-    unexpected(t)
+    Err(unexpected(t))
 }
 
 // ABORT: REPORT or EVENT.
-fn abort_kind(s: &[u8], base: usize, at: usize) -> StatementRead
+fn abort_kind(s: &[u8], base: usize, at: usize) -> Result<(Statement, usize), Refusal>
     requires { Seen base s.now at }
-    ensures { result ≡ read_from base s.now abort_kind tt at }
+    ensures { paper_read result ≡ read_from base s.now abort_kind tt at }
 {
     let t = next_item(s, base, at);
     if t.class == REPORT {
@@ -435,13 +423,13 @@ fn abort_kind(s: &[u8], base: usize, at: usize) -> StatementRead
     if t.class == EVENT {
         return abort_name(s, base, t.next, Aborted::Event);
     }
-    unexpected(t)
+    Err(unexpected(t))
 }
 
 // A statement of any kind, from its first token t on.
-pub fn statement_of(s: &[u8], base: usize, clause: StartClause, t: Item) -> StatementRead
+pub fn statement_of(s: &[u8], base: usize, clause: StartClause, t: Item) -> Result<(Statement, usize), Refusal>
     requires { Seen base s.now t.next }
-    ensures { result ≡ statement_of base s.now clause t }
+    ensures { paper_read result ≡ statement_of base s.now clause t }
 {
     if t.class == JOB {
         return job_name(s, base, t.next);
@@ -458,5 +446,5 @@ pub fn statement_of(s: &[u8], base: usize, clause: StartClause, t: Item) -> Stat
     if t.class == ABORT {
         return abort_kind(s, base, t.next);
     }
-    unexpected(t)
+    Err(unexpected(t))
 }

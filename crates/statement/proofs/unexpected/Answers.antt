@@ -2,4 +2,4 @@
 use Rattle.statement.proofs.unexpected.Goals as goal
 
 pub returns : goal.returns
-returns c = rw (← c.refusal_number.ensures) c.refuse.ensures
+returns c = rw (← c.refusal_reason.ensures) c.refuse.ensures

@@ -1,8 +1,0 @@
--- `job::placed` meets its contract.
-use Rattle.job.proofs.placed.Goals as goal
-
-pub returns-in-Is : goal.returns-in-Is
-returns-in-Is c = rw c.in-Is.is
-
-pub returns-in-Refused : goal.returns-in-Refused
-returns-in-Refused c = rw c.in-Refused.is

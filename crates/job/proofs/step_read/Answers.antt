@@ -1,8 +1,0 @@
--- `job::step_read` meets its contract.
-use Rattle.job.proofs.step_read.Goals as goal
-
-pub returns-in-Is : goal.returns-in-Is
-returns-in-Is c = rw c.in-Is.is
-
-pub returns-in-Refused : goal.returns-in-Refused
-returns-in-Refused c = rw c.in-Refused.is
