@@ -1,12 +1,12 @@
 -- What writing a record answers, and what it leaves of the lent output.
 use Rattle.std.specs.Prelude.{ℕ, ◌+◌, ◌≤◌, ◌≡◌, true, cond, List, eqb, leb, length}
 use Rattle.counts.specs.Refusals.{not_a_record, not_real, too_little_room}
-use Rattle.counts.specs.Result.{Result, refused, done, refused_as}
+use Rattle.counts.specs.Result.{Result, refused, done, paper}
+use Rattle.counts.specs.declared.Refusal.{Refusal}
+use Rattle.std.specs.declared.result.Result.{Result as Returned}
 use Rattle.field.specs.Part.{put}
 use Rattle.moment.specs.Moment.{real_moment}
 use Rattle.record.specs.Record.{Content, in_range, record_bytes}
-use Rattle.record.specs.declared.Written.{Written}
-use Rattle.record.specs.declared.Written.TheVariants.{Bytes, Refused}
 
 -- ---- Need not be believed: `writes_record` and `record_written` of the page of claims tie them to the rows.
 
@@ -34,6 +34,5 @@ pub record Fits (limit : ℕ) (c : Content) (at : ℕ) (out : List ℕ) : Type 0
 
 -- ---- the paper's number and values of each answer
 
-abbrev pub paper_record_written : Written → Result ℕ
-paper_record_written (Bytes n) = done n
-paper_record_written (Refused r) = refused_as r
+abbrev pub paper_record_written : Returned ℕ Refusal → Result ℕ
+paper_record_written = paper λ n. n

@@ -3,27 +3,19 @@
 
 ghost use Rattle.std.specs.Prelude.{◌≡◌, true, ◌+◌, ◌≤◌, length};
 ghost use Rattle.counts.specs.Limits.{commands, text_bytes, class_most, code_most};
+ghost use Rattle.counts.specs.Result.{refused_by};
 ghost use Rattle.field.specs.Part.{Wrote};
 ghost use Rattle.decimal.specs.Digits.{plain_width};
 ghost use Rattle.record.specs.Record.{content, is_outcome, in_range, outcome_bytes, record_bytes, fixed_length};
 ghost use Rattle.record.specs.Writing.{Fits, write_refusal, written, written_bytes, paper_record_written};
 
-use counts::{
-    CLASS_MOST, CODE_MOST, COMMANDS, CommandNumber, NOT_A_RECORD, NOT_REAL, Refusal, TEXT_BYTES,
-    TOO_LITTLE_ROOM,
-};
+use counts::{CLASS_MOST, CODE_MOST, COMMANDS, CommandNumber, Reason, Refusal, TEXT_BYTES};
 
 // What a command came to: PROCESSED, or ERROR with class and code.
-#[derive(Clone, Copy)]
+#[derive(Clone, Copy, Debug, PartialEq, Eq, Hash)]
 pub enum Outcome {
     Processed,
     Error(u32, u32),
-}
-
-#[derive(Clone, Copy)]
-pub enum Written {
-    Bytes(usize),
-    Refused(Refusal),
 }
 
 pub fn is_outcome(outcome: Outcome) -> bool
@@ -61,27 +53,27 @@ pub fn record_length(number: CommandNumber, outcome: Outcome, size: usize) -> us
     fixed_length(outcome) + decimal::plain_width(n as u64) + size
 }
 
-// Which refusal a record and the room for it get, and 0 for none.
-fn write_refusal(
+// Whether a record may be written, and why not.
+fn may_write(
     number: CommandNumber,
     outcome: Outcome,
     date: u32,
     time: u32,
     text: &[u8],
     room: usize,
-) -> u32
-    ensures { result ≡ write_refusal commands (content number.0 outcome text.now date time) room }
+) -> Result<(), Reason>
+    ensures { refused_by result ≡ write_refusal commands (content number.0 outcome text.now date time) room }
 {
-    if in_range(number, outcome, text) {
-        if moment::is_real(date, time) {
-            if record_length(number, outcome, text.len()) <= room {
-                return 0;
-            }
-            return TOO_LITTLE_ROOM;
-        }
-        return NOT_REAL;
+    if !in_range(number, outcome, text) {
+        return Err(Reason::NotARecord);
     }
-    NOT_A_RECORD
+    if !moment::is_real(date, time) {
+        return Err(Reason::NotReal);
+    }
+    if room < record_length(number, outcome, text.len()) {
+        return Err(Reason::TooLittleRoom);
+    }
+    Ok(())
 }
 
 // Writes ERROR with class and code, and the quote that opens the text.
@@ -134,13 +126,9 @@ pub fn write_record(
     time: u32,
     text: &[u8],
     out: &mut [u8],
-) -> Written
+) -> Result<usize, Refusal>
     ensures { (paper_record_written result ≡ written commands (content number.0 outcome text.now date time) out.old) × (out.new ≡ written_bytes commands (content number.0 outcome text.now date time) out.old) }
 {
-    let refused = write_refusal(number, outcome, date, time, text, out.len());
-    if refused == 0 {
-        Written::Bytes(put_record(out, 0, number, outcome, date, time, text))
-    } else {
-        Written::Refused(Refusal::plain(refused))
-    }
+    may_write(number, outcome, date, time, text, out.len())?;
+    Ok(put_record(out, 0, number, outcome, date, time, text))
 }

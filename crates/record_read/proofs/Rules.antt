@@ -7,14 +7,12 @@ use mathlib.Core.List.{List}
 use lib.Dec.{leb}
 use borrow.Author.Tests.{leb-true}
 use Rattle.laws.proofs.Choose.{and_left, and_right}
-use Rattle.counts.specs.Refusals.{not_a_record, refusal}
-use Rattle.counts.specs.Result.{refused}
 use Rattle.counts.specs.declared.CommandNumber.{CommandNumber}
 use Rattle.labelled.specs.Labelled.{on_field}
 use Rattle.labelled.specs.declared.FieldRead.{FieldRead}
 use Rattle.moment.proofs.Moments.{moments}
 use Rattle.record.specs.declared.Outcome.{Outcome}
-use Rattle.record_read.specs.Reading.{command_field, on_outcome, on_record, outcome_read, number_in, rest_read, paper_record_read}
+use Rattle.record_read.specs.Reading.{command_field, on_outcome, on_record, outcome_read, number_in, rest_read}
 use Rattle.record_read.specs.declared.Record.{Record}
 use Rattle.record_read.specs.declared.CommandRead.{CommandRead}
 use Rattle.record_read.specs.declared.CommandRead.TheVariants.{Command, NoCommand}
@@ -22,8 +20,6 @@ use Rattle.record_read.specs.declared.OutcomeRead.{OutcomeRead}
 use Rattle.record_read.specs.declared.OutcomeRead.TheVariants.{Opens, NoOutcome}
 use Rattle.record_read.specs.declared.FirstRecord.{FirstRecord}
 use Rattle.record_read.specs.declared.FirstRecord.TheVariants.{Ends, NoRecord}
-use Rattle.record_read.specs.declared.RecordRead.{RecordRead}
-use Rattle.record_read.specs.declared.RecordRead.TheVariants.{Refused}
 
 module _ (R : Type 0) (x stop : R) where
   pub command_read : (go : ℕ → R) (d : CommandRead) (e : FieldRead) (n : CommandNumber) → command_field d ≡ e → d ≡ Command n → x ≡ go n.0
@@ -56,11 +52,8 @@ module _ (s : List ℕ) where
   pub rest_of_lem : (n : ℕ) (o : Outcome) (x : FirstRecord) (start end e : ℕ) → x ≡ rest_read s n o start end → end ≡ e → x ≡ rest_read s n o start e
   rest_of_lem n o x start end e p q = p ∙ ap (rest_read s n o start) q
 
-pub says_none : (r : RecordRead) → r ≡ Refused (refusal not_a_record 0) → paper_record_read r ≡ refused not_a_record 0
-says_none r e = ap paper_record_read e
-
 -- what a test of both ends of a range gives
 pub between : (a b w : ℕ) → (leb a w && leb w b) ≡ true → (a ≤ w) × (w ≤ b)
 between a b w h = (leb-true a w (and_left (leb a w) (leb w b) h), leb-true w b (and_right (leb a w) (leb w b) h))
 
-pub ruleset reads = (moments, command_read, no_command, outcome_read_lem, no_outcome, record_read_row, no_record, number_of, rest_of_lem, says_none, outcome_of)
+pub ruleset reads = (moments, command_read, no_command, outcome_read_lem, no_outcome, record_read_row, no_record, number_of, rest_of_lem, outcome_of)

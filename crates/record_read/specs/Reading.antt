@@ -2,7 +2,9 @@
 use Rattle.std.specs.Prelude.{ℕ, ◌+◌, ◌-◌, cond, ◌&&◌, List, [], eqb, leb, length}
 use Rattle.counts.specs.Limits.{text_bytes}
 use Rattle.counts.specs.Refusals.{not_a_record}
-use Rattle.counts.specs.Result.{Result, refused, done, refused_as}
+use Rattle.counts.specs.Result.{Result, refused, done, paper}
+use Rattle.counts.specs.declared.Refusal.{Refusal}
+use Rattle.std.specs.declared.result.Result.{Result as Returned}
 use Rattle.field.specs.Bytes.{ascii, has_at}
 use Rattle.field.specs.Part.{part}
 use Rattle.decimal.specs.Digits.{plain_width}
@@ -22,8 +24,6 @@ use Rattle.record_read.specs.declared.OutcomeRead.{OutcomeRead}
 use Rattle.record_read.specs.declared.OutcomeRead.TheVariants.{Opens, NoOutcome}
 use Rattle.record_read.specs.declared.FirstRecord.{FirstRecord}
 use Rattle.record_read.specs.declared.FirstRecord.TheVariants.{Ends, NoRecord}
-use Rattle.record_read.specs.declared.RecordRead.{RecordRead}
-use Rattle.record_read.specs.declared.RecordRead.TheVariants.{Taken, Refused}
 
 -- ---- Need not be believed: the fields. `reads_record` of the page of claims says that exactly the permitted records' bytes are taken, as those records;
 -- `at_exactly` (`proofs/RoundTrip`) says the same of a record at a place.
@@ -91,9 +91,8 @@ record_read limit s =
 abbrev pub content_of : List ℕ → Record → Content
 content_of s r = content r.number.0 r.outcome (part s r.start r.length) r.date r.time
 
-abbrev pub paper_record_read : RecordRead → Result Record
-paper_record_read (Taken r) = done r
-paper_record_read (Refused r) = refused_as r
+abbrev pub paper_record_read : Returned Record Refusal → Result Record
+paper_record_read = paper λ r. r
 
 -- the same with the text for its place
 abbrev pub with_text : List ℕ → Result Record → Result Content

@@ -4,16 +4,15 @@
 
 ghost use Rattle.std.specs.Prelude.{◌≡◌, ◌+◌, ◌≤◌, length};
 ghost use Rattle.counts.specs.Limits.{commands};
-ghost use Rattle.counts.specs.Refusals.{not_a_record, refusal};
 ghost use Rattle.record_read.specs.Reading.{command_field, number_in, outcome_read, rest_read, record_at, record_read, paper_record_read, text_of};
 
-use counts::{COMMANDS, CommandNumber, NOT_A_RECORD, Refusal, TEXT_BYTES};
+use counts::{COMMANDS, CommandNumber, Reason, Refusal, TEXT_BYTES};
 use labelled::FieldRead;
 use moment::MomentRead;
 use record::Outcome;
 
 // A record as it was read: its text is the length bytes of the input from start on.
-#[derive(Clone, Copy)]
+#[derive(Clone, Copy, Debug, PartialEq, Eq, Hash)]
 pub struct Record {
     pub number: CommandNumber,
     pub outcome: Outcome,
@@ -28,12 +27,6 @@ pub struct Record {
 pub enum FirstRecord {
     Ends(Record, usize),
     NoRecord,
-}
-
-#[derive(Clone, Copy)]
-pub enum RecordRead {
-    Taken(Record),
-    Refused(Refusal),
 }
 
 // What the readers of a record's fields answer.
@@ -135,30 +128,24 @@ pub fn record_at(bytes: &[u8], at: usize) -> FirstRecord
     rest_at(bytes, number, outcome, start, end)
 }
 
-fn no_record() -> RecordRead
-    ensures { result ≡ RecordRead.Refused (refusal not_a_record 0) }
-{
-    RecordRead::Refused(Refusal::plain(NOT_A_RECORD))
-}
-
 // Reads the whole of bytes as one record.
-pub fn read_record(bytes: &[u8]) -> RecordRead
+pub fn read_record(bytes: &[u8]) -> Result<Record, Refusal>
     ensures { paper_record_read result ≡ record_read commands bytes.now }
 {
     let FirstRecord::Ends(record, end) = record_at(bytes, 0) else {
-        return no_record();
+        return Err(Reason::NotARecord.into());
     };
     if end == bytes.len() {
-        return RecordRead::Taken(record);
+        return Ok(record);
     }
-    no_record()
+    Err(Reason::NotARecord.into())
 }
 
 // The text of a record, as a part of its bytes. Where the bytes are no record it is the empty part.
 pub fn record_text(bytes: &[u8]) -> &[u8]
     ensures { result.now ≡ text_of bytes.now (record_read commands bytes.now) }
 {
-    let RecordRead::Taken(record) = read_record(bytes) else {
+    let Ok(record) = read_record(bytes) else {
         return &bytes[0..0];
     };
     let start = record.start;
