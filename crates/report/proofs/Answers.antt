@@ -13,52 +13,52 @@ use Rattle.delimited.specs.Lines.{is_delimiter}
 use Rattle.report.specs.Report.{Told}
 use Rattle.report.specs.Reading.{line_at, lines_from, judged, cells_from, tell, read_report}
 use Rattle.report.specs.Answer.{sized, filled}
-use Rattle.report.specs.declared.LineRead.{LineRead}
-use Rattle.report.specs.declared.LineRead.TheVariants.{Fields, NoLine}
-use Rattle.report.specs.declared.Judged.{Judged}
-use Rattle.report.specs.declared.Judged.TheVariants.{Whole, BreaksAt}
+use Rattle.std.specs.declared.option.Option.{Option}
+use Rattle.std.specs.declared.option.Option.TheVariants.{Some, None}
+use Rattle.std.specs.declared.result.Result.{Result as Returned}
+use Rattle.std.specs.declared.result.Result.TheVariants.{Ok, Err}
 use Rattle.report.proofs.Reports.{line_found}
 
-module _ (d : ℕ) (s : List ℕ) (r : LineRead) (line : r ≡ line_at false d s 0) where
-  pub no_names : r ≡ NoLine → BreaksAt 0 ≡ judged d s
+module _ (d : ℕ) (s : List ℕ) where
+  pub no_names : None ≡ line_at false d s 0 → Err 0 ≡ judged d s
   unfolding judged
-  no_names q = rw (sym line ∙ q)
+  no_names q = rw (sym q)
 
-  module _ (m j : ℕ) (is : r ≡ Fields m j) where
+  module _ (m j : ℕ) (line : Some (m, j) ≡ line_at false d s 0) where
     pub names_inside : is_delimiter d ≡ true → j ≤ length s
-    names_inside delimiter = (line_found d delimiter s false 0 m j (sym line ∙ is)).stands.inside
+    names_inside delimiter = (line_found d delimiter s false 0 m j (sym line)).stands.inside
 
-    pub names_then : (x : Judged) → m ≤ columns → x ≡ lines_from (suc (length s)) d s m j 0 → x ≡ judged d s
+    pub names_then : (x : Returned (ℕ × ℕ) ℕ) → m ≤ columns → x ≡ lines_from (suc (length s)) d s m j 0 → x ≡ judged d s
     unfolding judged
-    names_then x few h = rw (sym line ∙ is, le-leb m columns few) h
+    names_then x few h = rw (sym line, le-leb m columns few) h
 
-    pub too_many_names : columns < m → BreaksAt 0 ≡ judged d s
+    pub too_many_names : columns < m → Err 0 ≡ judged d s
     unfolding judged
-    too_many_names many = rw (sym line ∙ is, lt-leb m columns many)
+    too_many_names many = rw (sym line, lt-leb m columns many)
 
 -- ---- by what was judged
 
 module _ (d : ℕ) (s : List ℕ) (room : ℕ) where
-  pub no_delimiter : (t : Bool) → t ≡ is_delimiter d → t ≡ false → read_report d s room ≡ refused out_of_range 0
+  pub no_delimiter : is_delimiter d ≡ false → read_report d s room ≡ refused out_of_range 0
   unfolding read_report
-  no_delimiter t is f = rw (sym is ∙ f)
+  no_delimiter f = rw f
 
-  module _ (t : Bool) (is : t ≡ is_delimiter d) (yes-it-is : t ≡ true) (r : Judged) (judge : r ≡ judged d s) where
-    by_judged : (x : Judged) → r ≡ x → read_report d s room ≡ tell d s room x
+  module _ (is : is_delimiter d ≡ true) where
+    by_judged : (x : Returned (ℕ × ℕ) ℕ) → x ≡ judged d s → read_report d s room ≡ tell d s room x
     unfolding read_report
-    by_judged x q = rw (sym is ∙ yes-it-is, sym judge ∙ q)
+    by_judged x q = rw (is, sym q)
 
-    pub breaks_there : (p : ℕ) → r ≡ BreaksAt p → read_report d s room ≡ refused not_a_record p
-    breaks_there p q = by_judged (BreaksAt p) q
+    pub breaks_there : (p : ℕ) → Err p ≡ judged d s → read_report d s room ≡ refused not_a_record p
+    breaks_there p q = by_judged (Err p) q
 
     abbrev all : ℕ → ℕ → Told
     all m k = record { columns = m; lines = k; cells = cells_from (length s) d s 0 }
 
-    pub has_room : (m k : ℕ) → r ≡ Whole m k → 2 * (m * (k + 1)) ≤ room → read_report d s room ≡ done (all m k)
-    has_room m k q h = by_judged (Whole m k) q ∙ rw (le-leb _ _ h)
+    pub has_room : (m k : ℕ) → Ok (m, k) ≡ judged d s → 2 * (m * (k + 1)) ≤ room → read_report d s room ≡ done (all m k)
+    has_room m k q h = by_judged (Ok (m, k)) q ∙ rw (le-leb _ _ h)
 
-    pub little_room : (m k : ℕ) → r ≡ Whole m k → room < 2 * (m * (k + 1)) → read_report d s room ≡ refused too_little_room 0
-    little_room m k q h = by_judged (Whole m k) q ∙ rw (lt-leb _ _ h)
+    pub little_room : (m k : ℕ) → Ok (m, k) ≡ judged d s → room < 2 * (m * (k + 1)) → read_report d s room ≡ refused too_little_room 0
+    little_room m k q h = by_judged (Ok (m, k)) q ∙ rw (lt-leb _ _ h)
 
 -- the answer and the cells at exit, by what the report reads as
 pub both : (d : ℕ) (s lent exit : List ℕ) (v : Result (ℕ × ℕ)) (x : Result Told) → read_report d s (length lent) ≡ x → v ≡ sized x → exit ≡ filled x lent

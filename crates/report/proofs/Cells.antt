@@ -13,14 +13,14 @@ use Rattle.delimited.proofs.Found.{at_field, at_line}
 use Rattle.delimited.proofs.Lines.{line_some, line_long, each_so, length_cells, lines_long}
 use Rattle.report.specs.Report.{ValueLine, Rows, Report}
 use Rattle.report.specs.Reading.{name_at, value_at, field_at, cell_at, cells_from, judged}
-use Rattle.report.specs.declared.FieldRead.TheVariants.{End, NoField}
-use Rattle.report.specs.declared.Judged.{Judged}
-use Rattle.report.specs.declared.Judged.TheVariants.{Whole, BreaksAt}
+use Rattle.std.specs.declared.option.Option.TheVariants.{Some, None}
+use Rattle.std.specs.declared.result.Result.{Result as Returned}
+use Rattle.std.specs.declared.result.Result.TheVariants.{Ok, Err}
 use Rattle.report.proofs.Fields.{Field, field_some, field_found, field_cell, no_value_past}
 use Rattle.report.proofs.Lines.{field_in_line}
 use Rattle.report.proofs.Reports.{Judgement, taken, broken, judged_so}
 
-pub no_cell_past : (s : List ℕ) (i : ℕ) → length s ≤ i → cell_at s i ≡ NoField
+pub no_cell_past : (s : List ℕ) (i : ℕ) → length s ≤ i → cell_at s i ≡ None
 unfolding cell_at
 no_cell_past s i h = rw (get_or-eq_default s 0 h) (no_value_past s i h)
 
@@ -30,13 +30,16 @@ cells_past zero d s i h = refl
 cells_past (suc n) d s i h = rw (no_cell_past s i h)
 
 -- a cell is a name or a value
-pub cell_found : (s : List ℕ) (i e : ℕ) → cell_at s i ≡ End e → (i < e) × (e ≤ length s)
+pub cell_found : (s : List ℕ) (i e : ℕ) → cell_at s i ≡ Some e → (i < e) × (e ≤ length s)
 unfolding cell_at field_at
 cell_found s i e h = go (is_letter (get_or s i 0)) h
   where
-    go : (t : Bool) → cond t (name_at s i) (value_at s i) ≡ End e → (i < e) × (e ≤ length s)
+    go : (t : Bool) → cond t (name_at s i) (value_at s i) ≡ Some e → (i < e) × (e ≤ length s)
     go true x = let f = field_found false s i e x in (f.ahead, f.inside)
     go false x = let f = field_found true s i e x in (f.ahead, f.inside)
+
+pub same_size : {m k n j : ℕ} → ◌≡◌ {A = Returned (ℕ × ℕ) ℕ} (Ok (m, k)) (Ok (n, j)) → (m ≡ n) × (k ≡ j)
+same_size {m} {k} {n} {j} h = let p : ◌≡◌ {A = ℕ × ℕ} (m, k) (n, j) = cc in (ap (λ (x : ℕ × ℕ). x.0) p, ap (λ (x : ℕ × ℕ). x.1) p)
 
 module _ (d : ℕ) (is : is_delimiter d ≡ true) (s : List ℕ) where
   -- the cells of a line that stands at i, and then those after it
@@ -127,20 +130,19 @@ module _ (d : ℕ) (is : is_delimiter d ≡ true) (s : List ℕ) where
     pub few : 2 * (m * (k + 1)) ≤ length s
     pub cells : length (cells_from (length s) d s 0) ≡ 2 * (m * (k + 1))
 
-  pub whole_small : (m k : ℕ) → judged d s ≡ Whole m k → Small m k
+  pub whole_small : (m k : ℕ) → judged d s ≡ Ok (m, k) → Small m k
   whole_small m k e = go (judged_so d is s) e
     where
-      go : {x : Judged} → Judgement d is s x → x ≡ Whole m k → Small m k
+      go : {x : Returned (ℕ × ℕ) ℕ} → Judgement d is s x → x ≡ Ok (m, k) → Small m k
       go (taken r report) q =
-          let a : length r.names ≡ m = cc in
-          let b : length r.values ≡ k = cc in
+          let (a, b) = same_size q in
           rw (← a, ← b)
           (record {
             rows = omega (arith, mul-le-mul_right (length r.values + 1) report.fits.first.some);
             few = report_long r report;
             cells = ap length (report_cells r report) ∙ report_sized r report;
           })
-      go (broken h) q = absurd (broken≢whole q)
+      go (broken {p = p} h) q = absurd (err≢ok p (m, k) q)
         where
-          broken≢whole : {p : ℕ} → BreaksAt p ≡ Whole m k → ⊥
-          broken≢whole h = let z : ◌≡◌ {A = ℕ} 0 1 = cc in omega arith
+          err≢ok : (p : ℕ) (size : ℕ × ℕ) → Err p ≡ Ok size → ⊥
+          err≢ok p size h = cc

@@ -28,8 +28,9 @@ use Rattle.delimited.specs.Lines.{is_delimiter}
 use Rattle.delimited.proofs.Lines.{of_four}
 use Rattle.report.specs.Report.{Name, Value, number, string}
 use Rattle.report.specs.Reading.{name_of, name_at, figures_at, numeral_at, string_end, value_at, field_at, cell_at}
-use Rattle.report.specs.declared.FieldRead.TheVariants.{End, NoField}
-use Rattle.report.proofs.Numbers.{no_field≢end, numeral_found, numeral_stands}
+use Rattle.std.proofs.lemmas.Option.{none-some}
+use Rattle.std.specs.declared.option.Option.TheVariants.{Some, None}
+use Rattle.report.proofs.Numbers.{numeral_found, numeral_stands}
 
 -- ---- what goes on with no word and no number
 
@@ -79,13 +80,13 @@ the_name name h = refl
 the_name TimeGe h = absurd (false≢true h)
 
 module _ (s : List ℕ) (i : ℕ) where
-  name_found : (e : ℕ) → name_at s i ≡ End e → Found Name s i e
+  name_found : (e : ℕ) → name_at s i ≡ Some e → Found Name s i e
   unfolding name_at
   name_found e h = go (is_letter (get_or s i 0)) refl (word_read s i) refl h
     where
-      of_word : is_letter (get_or s i 0) ≡ true → (w : Word) (b : ℕ) → word_read s i ≡ Is w b → (t : Bool) → is_name w ≡ t → cond t (End b) NoField ≡ End e
+      of_word : is_letter (get_or s i 0) ≡ true → (w : Word) (b : ℕ) → word_read s i ≡ Is w b → (t : Bool) → is_name w ≡ t → cond t (Some b) None ≡ Some e
           → Found Name s i e
-      of_word l w b r false n x = absurd (no_field≢end x)
+      of_word l w b r false n x = absurd (none-some _ x)
       of_word l w b r true n x =
           let j : b ≡ e = cc in
           let k : word_read s i ≡ Is name e = r ∙ rw (the_name w n, j) in
@@ -97,12 +98,12 @@ module _ (s : List ℕ) (i : ℕ) where
             is = record { letter = rw (first_byte s i (e - i) (omega arith) (omega arith)) l; word = name_alone s i e k };
           }
 
-      go : (t : Bool) → is_letter (get_or s i 0) ≡ t → (r : WordRead) → word_read s i ≡ r → cond t (name_of r) NoField ≡ End e → Found Name s i e
-      go false l r q x = absurd (no_field≢end x)
-      go true l NoWord q x = absurd (no_field≢end x)
+      go : (t : Bool) → is_letter (get_or s i 0) ≡ t → (r : WordRead) → word_read s i ≡ r → cond t (name_of r) None ≡ Some e → Found Name s i e
+      go false l r q x = absurd (none-some _ x)
+      go true l NoWord q x = absurd (none-some _ x)
       go true l (Is w b) q x = of_word l w b q (is_name w) refl x
 
-  string_found : (e : ℕ) → string_end s i ≡ End e → Found Value s i e
+  string_found : (e : ℕ) → string_end s i ≡ Some e → Found Value s i e
   unfolding string_end
   string_found e h = go (is_text_at s i) refl h
     where
@@ -120,15 +121,15 @@ module _ (s : List ℕ) (i : ℕ) where
                 (string (record { after = []; stands = refl; few = w.few; each = w.each }) refl);
           }
 
-      go : (t : Bool) → is_text_at s i ≡ t → cond t (End (content_end s i + 1)) NoField ≡ End e → Found Value s i e
+      go : (t : Bool) → is_text_at s i ≡ t → cond t (Some (content_end s i + 1)) None ≡ Some e → Found Value s i e
       go true t x = a_string t (cc)
-      go false t x = absurd (no_field≢end x)
+      go false t x = absurd (none-some _ x)
 
-  value_found : (e : ℕ) → value_at s i ≡ End e → Found Value s i e
+  value_found : (e : ℕ) → value_at s i ≡ Some e → Found Value s i e
   unfolding value_at
   value_found e h = go (eqb (get_or s i 0) 34) h
     where
-      go : (t : Bool) → cond t (string_end s i) (numeral_at s i) ≡ End e → Found Value s i e
+      go : (t : Bool) → cond t (string_end s i) (numeral_at s i) ≡ Some e → Found Value s i e
       go true x = string_found e x
       go false x =
           let f = (numeral_found s i e x).1 in
@@ -140,7 +141,7 @@ module _ (s : List ℕ) (i : ℕ) where
     room : 1 ≤ length x → i + length x ≤ length s
     room some = omega (arith, simp (length-append, length-drop) at (ap length stands))
 
-    name_stands : Name x → name_at s i ≡ End (i + length x)
+    name_stands : Name x → name_at s i ≡ Some (i + length x)
     unfolding name_at
     name_stands n =
         rw (first_here x rest stands n.letter, name_goes_on s i x rest n.word stands stops.word stops.sign)
@@ -149,7 +150,7 @@ module _ (s : List ℕ) (i : ℕ) where
         first_here [] rest h l = absurd (false≢true l)
         first_here (y ∷ x) rest h l = rw (head_at s i y (x ++ rest) h) l
 
-    string_stands : {c : List ℕ} → (w : WholeString x 0 c) → w.after ≡ [] → value_at s i ≡ End (i + length x)
+    string_stands : {c : List ℕ} → (w : WholeString x 0 c) → w.after ≡ [] → value_at s i ≡ Some (i + length x)
     unfolding value_at string_end
     string_stands {c} w last =
         let is : x ≡ 34 ∷ (c ++ (34 ∷ [])) = w.stands ∙ rw last in
@@ -159,7 +160,7 @@ module _ (s : List ℕ) (i : ℕ) where
         let end : content_end s i + 1 ≡ i + length x = end_of s i t.0 ∙ rw t.1 (omega arith) in
         rw (eq-eqb (get_or s i 0) 34 (head_at s i 34 (c ++ (34 ∷ rest)) here), t.0, end)
 
-    number_stands : {minus : Bool} {w f : List ℕ} → Numeral x minus w f → value_at s i ≡ End (i + length x)
+    number_stands : {minus : Bool} {w f : List ℕ} → Numeral x minus w f → value_at s i ≡ Some (i + length x)
     unfolding value_at
     number_stands {minus} {w} {f} n =
         rw (ne_eqb (get_or s i 0) 34 (no_quote minus w f n))
@@ -172,7 +173,7 @@ module _ (s : List ℕ) (i : ℕ) where
         no_quote true w f n q =
             omega (arith, head_at s i 45 (unsigned w f ++ rest) (stands ∙ ap (λ (l : List ℕ). l ++ rest) n.bytes))
 
-    value_stands : Value x → value_at s i ≡ End (i + length x)
+    value_stands : Value x → value_at s i ≡ Some (i + length x)
     value_stands (number n) = number_stands n
     value_stands (string w last) = string_stands w last
 
@@ -192,19 +193,19 @@ field_some true [] v = absurd (no_value v)
 field_some false (y ∷ x) n = omega arith
 field_some true (y ∷ x) v = omega arith
 
-pub field_found : (values : Bool) (s : List ℕ) (i e : ℕ) → field_at values s i ≡ End e → Found (Field values) s i e
+pub field_found : (values : Bool) (s : List ℕ) (i e : ℕ) → field_at values s i ≡ Some e → Found (Field values) s i e
 unfolding field_at
 field_found true s i e h = value_found s i e h
 field_found false s i e h = name_found s i e h
 
 pub field_stands : (values : Bool) (s : List ℕ) (i : ℕ) (x rest : List ℕ) → drop i s ≡ x ++ rest → Stops (get_or s (i + length x) 0) → Field values x
-    → field_at values s i ≡ End (i + length x)
+    → field_at values s i ≡ Some (i + length x)
 unfolding field_at
 field_stands true s i x rest stands stops v = value_stands s i x rest stands stops v
 field_stands false s i x rest stands stops n = name_stands s i x rest stands stops n
 
 -- no value begins with a letter
-letter_no_value : (s : List ℕ) (i : ℕ) → is_letter (get_or s i 0) ≡ true → value_at s i ≡ NoField
+letter_no_value : (s : List ℕ) (i : ℕ) → is_letter (get_or s i 0) ≡ true → value_at s i ≡ None
 unfolding value_at numeral_at figures_at
 letter_no_value s i l =
     rw (
@@ -219,23 +220,23 @@ letter_no_value s i l =
     no_digit true e = absurd (false≢true (sym (no_letter (get_or s i 0) e) ∙ l))
 
 -- so a field is the cell that stands there
-pub field_cell : (values : Bool) (s : List ℕ) (i e : ℕ) → field_at values s i ≡ End e → cell_at s i ≡ End e
+pub field_cell : (values : Bool) (s : List ℕ) (i e : ℕ) → field_at values s i ≡ Some e → cell_at s i ≡ Some e
 unfolding field_at cell_at name_at
 field_cell values s i e h = go values (is_letter (get_or s i 0)) refl h
   where
-    go : (v t : Bool) → is_letter (get_or s i 0) ≡ t → cond v (value_at s i) (cond t (name_of (word_read s i)) NoField) ≡ End e
-        → cond t (cond t (name_of (word_read s i)) NoField) (value_at s i) ≡ End e
+    go : (v t : Bool) → is_letter (get_or s i 0) ≡ t → cond v (value_at s i) (cond t (name_of (word_read s i)) None) ≡ Some e
+        → cond t (cond t (name_of (word_read s i)) None) (value_at s i) ≡ Some e
     go true false l x = x
-    go true true l x = absurd (no_field≢end (sym (letter_no_value s i l) ∙ x))
+    go true true l x = absurd (none-some _ (sym (letter_no_value s i l) ∙ x))
     go false true l x = x
-    go false false l x = absurd (no_field≢end x)
+    go false false l x = absurd (none-some _ x)
 
 -- past the end stands none
-pub no_value_past : (s : List ℕ) (i : ℕ) → length s ≤ i → value_at s i ≡ NoField
+pub no_value_past : (s : List ℕ) (i : ℕ) → length s ≤ i → value_at s i ≡ None
 unfolding value_at numeral_at figures_at
 no_value_past s i h = rw (get_or-eq_default s 0 h, run_past is_digit s i h, eq-eqb i i refl)
 
-pub no_field_past : (values : Bool) (s : List ℕ) (i : ℕ) → length s ≤ i → field_at values s i ≡ NoField
+pub no_field_past : (values : Bool) (s : List ℕ) (i : ℕ) → length s ≤ i → field_at values s i ≡ None
 unfolding field_at name_at
 no_field_past true s i h = no_value_past s i h
 no_field_past false s i h = rw (get_or-eq_default s 0 h)

@@ -15,13 +15,10 @@ use Rattle.delimited.specs.declared.Separator.TheVariants as after
 use Rattle.delimited.proofs.Lines.{line_last, line_more, line_some}
 use Rattle.delimited.proofs.Found.{at_field, at_line, IsField, IsLine, found_field, found_line}
 use Rattle.report.specs.Reading.{field_at, on_field, fields_from}
-use Rattle.report.specs.declared.FieldRead.{FieldRead}
-use Rattle.report.specs.declared.FieldRead.TheVariants.{End, NoField}
-use Rattle.report.specs.declared.LineRead.TheVariants.{Fields, NoLine}
+use Rattle.std.specs.declared.option.Option.{Option}
+use Rattle.std.proofs.lemmas.Option.{none-some, some_pair_parts}
+use Rattle.std.specs.declared.option.Option.TheVariants.{Some, None}
 use Rattle.report.proofs.Fields.{Stops, end_stops, delimiter_stops, Found, Field, field_found, field_stands}
-
-pub no_line≢fields : {m j : ℕ} → NoLine ≡ Fields m j → ⊥
-no_line≢fields h = let z : ◌≡◌ {A = ℕ} 0 1 = cc in omega arith
 
 -- a line of at least one field stands from i to j
 pub record Stands (values : Bool) (d : ℕ) (s : List ℕ) (i : ℕ) (row : List (List ℕ)) (j : ℕ) : Type 0 where
@@ -66,14 +63,14 @@ module _ (values : Bool) (d : ℕ) (is : is_delimiter d ≡ true) (s : List ℕ)
         end = rw line_more (omega (arith, length-append x (d ∷ line d (y ∷ ys)), l.next, f.ahead, r.end));
       }
 
-  pub row_found : (n i k m j : ℕ) → fields_from n values d s i k ≡ Fields m j → Row values d s i k m j
+  pub row_found : (n i k m j : ℕ) → fields_from n values d s i k ≡ Some (m, j) → Row values d s i k m j
   unfolding fields_from
-  row_found zero i k m j h = absurd (no_line≢fields h)
+  row_found zero i k m j h = absurd (none-some _ h)
   row_found (suc n) i k m j h = go (field_at values s i) refl h (λ a. row_found n a (k + 1) m j)
     where
-      then : (e : ℕ) → field_at values s i ≡ End e → (q : Separator) → separator_at d s e ≡ q
-          → on_separator q NoLine (λ a. fields_from n values d s a (k + 1)) (λ a. Fields (k + 1) a) ≡ Fields m j
-          → ((a : ℕ) → fields_from n values d s a (k + 1) ≡ Fields m j → Row values d s a (k + 1) m j) → Row values d s i k m j
+      then : (e : ℕ) → field_at values s i ≡ Some e → (q : Separator) → separator_at d s e ≡ q
+          → on_separator q None (λ a. fields_from n values d s a (k + 1)) (λ a. Some (k + 1, a)) ≡ Some (m, j)
+          → ((a : ℕ) → fields_from n values d s a (k + 1) ≡ Some (m, j) → Row values d s a (k + 1) m j) → Row values d s i k m j
       then e f (after.Field a) q x next =
           let r = next a x in
           record {
@@ -82,20 +79,20 @@ module _ (values : Bool) (d : ℕ) (is : is_delimiter d ≡ true) (s : List ℕ)
             stands = more_fields i e a j r.row (field_found values s i e f) (found_field d is s e a q) r.stands;
           }
       then e f (after.Line a) q x next =
-          let b : a ≡ j = cc in
-          let c : k + 1 ≡ m = cc in
+          let b : a ≡ j = (some_pair_parts _ _ _ _ x).1 in
+          let c : k + 1 ≡ m = (some_pair_parts _ _ _ _ x).0 in
           record {
             row = part s i (e - i) ∷ [];
             many = omega arith;
             stands = rw (← b) (last_field i e a (field_found values s i e f) (found_line d is s e a q));
           }
-      then e f after.Neither q x next = absurd (no_line≢fields x)
+      then e f after.Neither q x next = absurd (none-some _ x)
 
-      go : (f : FieldRead) → field_at values s i ≡ f
-          → on_field f NoLine (λ e. on_separator (separator_at d s e) NoLine (λ a. fields_from n values d s a (k + 1)) (λ a. Fields (k + 1) a)) ≡ Fields m j
-          → ((a : ℕ) → fields_from n values d s a (k + 1) ≡ Fields m j → Row values d s a (k + 1) m j) → Row values d s i k m j
-      go NoField f x next = absurd (no_line≢fields x)
-      go (End e) f x next = then e f (separator_at d s e) refl x next
+      go : (f : Option ℕ) → field_at values s i ≡ f
+          → on_field f None (λ e. on_separator (separator_at d s e) None (λ a. fields_from n values d s a (k + 1)) (λ a. Some (k + 1, a))) ≡ Some (m, j)
+          → ((a : ℕ) → fields_from n values d s a (k + 1) ≡ Some (m, j) → Row values d s a (k + 1) m j) → Row values d s i k m j
+      go None f x next = absurd (none-some _ x)
+      go (Some e) f x next = then e f (separator_at d s e) refl x next
 
   -- ---- the other way
 
@@ -106,7 +103,7 @@ module _ (values : Bool) (d : ℕ) (is : is_delimiter d ≡ true) (s : List ℕ)
 
   -- a field in front of what follows it
   pub field_in_line : (i : ℕ) (x : List ℕ) (xs : List (List ℕ)) (rest : List ℕ) → Field values x → drop i s ≡ line d (x ∷ xs) ++ rest
-      → (field_at values s i ≡ End (i + length x)) × (drop (i + length x) s ≡ others d xs ++ rest)
+      → (field_at values s i ≡ Some (i + length x)) × (drop (i + length x) s ≡ others d xs ++ rest)
   unfolding line
   field_in_line i x xs rest f h =
       let stands : drop i s ≡ x ++ (others d xs ++ rest) = h ∙ append_assoc x (others d xs) rest in
@@ -120,7 +117,7 @@ module _ (values : Bool) (d : ℕ) (is : is_delimiter d ≡ true) (s : List ℕ)
   some_left i x xs h = omega (arith, ap length h, length-drop i s)
 
   pub row_stands : (n i k : ℕ) (x : List ℕ) (xs : List (List ℕ)) (rest : List ℕ) → Each (Field values) (x ∷ xs) → drop i s ≡ line d (x ∷ xs) ++ rest
-      → length s ≤ n + i → fields_from n values d s i k ≡ Fields (k + length (x ∷ xs)) (i + length (line d (x ∷ xs)))
+      → length s ≤ n + i → fields_from n values d s i k ≡ Some (k + length (x ∷ xs), i + length (line d (x ∷ xs)))
   unfolding fields_from others line
   row_stands zero i k x xs rest each h bound =
       absurd (omega (arith, ap length h, length-drop i s, length-append (line d (x ∷ xs)) rest, line_some d (x ∷ xs)))

@@ -2,6 +2,7 @@
 use Prim.Native.Nat.{ℕ, zero, suc, ◌+◌, ◌-◌, ◌≤◌, ◌<◌}
 use mathlib.Core.Path.{◌≡◌, refl, sym, ◌∙◌, ap}
 use mathlib.Core.Bool.{Bool, true, cond}
+use mathlib.Core.Logic.{◌⊎◌, inl, inr}
 use mathlib.Core.List.{List, [], ◌∷◌, ◌++◌, append_assoc, append-nil}
 use native.Mathlib.Omega.{arith}
 use borrow.Author.Tests.{lt-ltb, le-ltb, eq-eqb, ne_eqb}
@@ -16,19 +17,17 @@ use Rattle.delimited.specs.declared.Separator.TheVariants as after
 use Rattle.delimited.proofs.Found.{next_field, next_line}
 use Rattle.delimited.proofs.Lines.{line_some}
 use Rattle.report.specs.Reading.{field_at, cell_at, on_field, fields_from, line_at, on_line, lines_from, cells_from}
-use Rattle.report.specs.declared.FieldRead.{FieldRead}
-use Rattle.report.specs.declared.FieldRead.TheVariants.{End, NoField}
-use Rattle.report.specs.declared.LineRead.{LineRead}
-use Rattle.report.specs.declared.LineRead.TheVariants.{Fields, NoLine}
-use Rattle.report.specs.declared.Judged.{Judged}
-use Rattle.report.specs.declared.Judged.TheVariants.{Whole, BreaksAt}
+use Rattle.std.specs.declared.option.Option.{Option}
+use Rattle.std.specs.declared.option.Option.TheVariants.{Some, None}
+use Rattle.std.specs.declared.result.Result.{Result as Returned}
+use Rattle.std.specs.declared.result.Result.TheVariants.{Ok, Err}
 use Rattle.report.proofs.Fields.{field_found, no_field_past}
 use Rattle.report.proofs.Reports.{line_found}
 use Rattle.report.proofs.Cells.{cells_past, cell_found}
 
 -- ---- the fields of a line: after k of them, from the place `at` on
 
-pub record FieldsLeft (values : Bool) (d : ℕ) (s : List ℕ) (at k : ℕ) (e : LineRead) : Type 0 where
+pub record FieldsLeft (values : Bool) (d : ℕ) (s : List ℕ) (at k : ℕ) (e : Option (ℕ × ℕ)) : Type 0 where
   pub bound : ℕ
   pub enough : length s ≤ bound + at
   pub same : fields_from bound values d s at k ≡ e
@@ -39,59 +38,58 @@ unfolding line_at
 fields_start values d s i = record { bound = length s; enough = omega arith; same = refl; few = omega arith }
 
 -- one turn: n is what the bound leaves for the next
-fields_turn : (values : Bool) (d : ℕ) (s : List ℕ) (at k : ℕ) (e : LineRead) → FieldsLeft values d s at k e → at < length s
+fields_turn : (values : Bool) (d : ℕ) (s : List ℕ) (at k : ℕ) (e : Option (ℕ × ℕ)) → FieldsLeft values d s at k e → at < length s
     → (n : ℕ) × (length s ≤ n + (at + 1))
-    × (on_field (field_at values s at) NoLine
-    (λ end. on_separator (separator_at d s end) NoLine (λ j. fields_from n values d s j (k + 1)) (λ j. Fields (k + 1) j)) ≡ e)
+    × (on_field (field_at values s at) None
+    (λ end. on_separator (separator_at d s end) None (λ j. fields_from n values d s j (k + 1)) (λ j. Some (k + 1, j))) ≡ e)
 unfolding fields_from
 fields_turn values d s at k e left l = go left.bound left.enough left.same
   where
     go : (b : ℕ) → length s ≤ b + at → fields_from b values d s at k ≡ e
         → (n : ℕ) × (length s ≤ n + (at + 1))
-        × (on_field (field_at values s at) NoLine
-        (λ end. on_separator (separator_at d s end) NoLine (λ j. fields_from n values d s j (k + 1)) (λ j. Fields (k + 1) j)) ≡ e)
+        × (on_field (field_at values s at) None
+        (λ end. on_separator (separator_at d s end) None (λ j. fields_from n values d s j (k + 1)) (λ j. Some (k + 1, j))) ≡ e)
     go zero h x = absurd (omega arith)
     go (suc n) h x = (n, omega arith, x)
 
-none_past : (n : ℕ) (values : Bool) (d : ℕ) (s : List ℕ) (at k : ℕ) → length s ≤ at → fields_from n values d s at k ≡ NoLine
+none_past : (n : ℕ) (values : Bool) (d : ℕ) (s : List ℕ) (at k : ℕ) → length s ≤ at → fields_from n values d s at k ≡ None
 unfolding fields_from
 none_past zero values d s at k h = refl
 none_past (suc n) values d s at k h = rw (no_field_past values s at h)
 
-pub fields_past : (values : Bool) (d : ℕ) (s : List ℕ) (at k : ℕ) (e : LineRead) → FieldsLeft values d s at k e → length s ≤ at → NoLine ≡ e
+pub fields_past : (values : Bool) (d : ℕ) (s : List ℕ) (at k : ℕ) (e : Option (ℕ × ℕ)) → FieldsLeft values d s at k e → length s ≤ at → None ≡ e
 fields_past values d s at k e left h = sym (none_past left.bound values d s at k h) ∙ left.same
 
-module _ (values : Bool) (d : ℕ) (s : List ℕ) (at k : ℕ) (e : LineRead) (left : FieldsLeft values d s at k e) (l : at < length s) (r : FieldRead)
-    (field : r ≡ field_at values s at) where
-  pub no_field : r ≡ NoField → NoLine ≡ e
-  no_field q = rw (sym field ∙ q) at (fields_turn values d s at k e left l).2
+module _ (values : Bool) (d : ℕ) (s : List ℕ) (at k : ℕ) (e : Option (ℕ × ℕ)) (left : FieldsLeft values d s at k e) (l : at < length s) where
+  pub no_field : None ≡ field_at values s at → None ≡ e
+  no_field q = rw (sym q) at (fields_turn values d s at k e left l).2
 
-  pub field_room : (end : ℕ) → r ≡ End end → (at < end) × (end ≤ length s)
-  field_room end q = let f = field_found values s at end (sym field ∙ q) in (f.ahead, f.inside)
+  module _ (end : ℕ) (field : Some end ≡ field_at values s at) where
+    pub field_room : (at < end) × (end ≤ length s)
+    field_room = let f = field_found values s at end (sym field) in (f.ahead, f.inside)
 
-  module _ (end : ℕ) (is : r ≡ End end) (q : Separator) (found : q ≡ separator_at d s end) where
-    pub another_ahead : (j : ℕ) → q ≡ after.Field j → at + 2 ≤ j
-    another_ahead j h = omega (arith, next_field d s end j (sym found ∙ h), field_room end is)
+    pub another_ahead : (j : ℕ) → after.Field j ≡ separator_at d s end → at + 2 ≤ j
+    another_ahead j found = omega (arith, next_field d s end j (sym found), field_room)
 
-    pub another : (j : ℕ) → q ≡ after.Field j → FieldsLeft values d s j (k + 1) e
-    another j h =
+    pub another : (j : ℕ) → after.Field j ≡ separator_at d s end → FieldsLeft values d s j (k + 1) e
+    another j found =
         let t = fields_turn values d s at k e left l in
         record {
           bound = t.0;
-          enough = omega (arith, t.1, another_ahead j h);
-          same = rw (sym field ∙ is, sym found ∙ h) at t.2;
-          few = omega (arith, left.few, another_ahead j h);
+          enough = omega (arith, t.1, another_ahead j found);
+          same = rw (sym field, sym found) at t.2;
+          few = omega (arith, left.few, another_ahead j found);
         }
 
-    pub line_over : (j : ℕ) → q ≡ after.Line j → Fields (k + 1) j ≡ e
-    line_over j h = rw (sym field ∙ is, sym found ∙ h) at (fields_turn values d s at k e left l).2
+    pub line_over : (j : ℕ) → after.Line j ≡ separator_at d s end → Some (k + 1, j) ≡ e
+    line_over j found = rw (sym field, sym found) at (fields_turn values d s at k e left l).2
 
-    pub neither : q ≡ after.Neither → NoLine ≡ e
-    neither h = rw (sym field ∙ is, sym found ∙ h) at (fields_turn values d s at k e left l).2
+    pub neither : after.Neither ≡ separator_at d s end → None ≡ e
+    neither found = rw (sym field, sym found) at (fields_turn values d s at k e left l).2
 
 -- ---- the lines of values: after k of them, from the place `at` on
 
-pub record LinesLeft (d : ℕ) (s : List ℕ) (many at k : ℕ) (e : Judged) : Type 0 where
+pub record LinesLeft (d : ℕ) (s : List ℕ) (many at k : ℕ) (e : Returned (ℕ × ℕ) ℕ) : Type 0 where
   pub bound : ℕ
   pub enough : length s < bound + at
   pub inside : at ≤ length s
@@ -101,35 +99,35 @@ pub record LinesLeft (d : ℕ) (s : List ℕ) (many at k : ℕ) (e : Judged) : T
 pub lines_start : (d : ℕ) (s : List ℕ) (many i : ℕ) → i ≤ length s → LinesLeft d s many i 0 (lines_from (suc (length s)) d s many i 0)
 lines_start d s many i h = record { bound = suc (length s); enough = omega arith; inside = h; same = refl; few = omega arith }
 
-lines_turn : (d : ℕ) (s : List ℕ) (many at k : ℕ) (e : Judged) → LinesLeft d s many at k e
+lines_turn : (d : ℕ) (s : List ℕ) (many at k : ℕ) (e : Returned (ℕ × ℕ) ℕ) → LinesLeft d s many at k e
     → (n : ℕ) × (length s < n + (at + 1))
     × (cond (ltb at (length s))
-    (on_line (line_at true d s at) (BreaksAt at) (λ m j. cond (eqb m many) (lines_from n d s many j (k + 1)) (BreaksAt at))) (Whole many k) ≡ e)
+    (on_line (line_at true d s at) (Err at) (λ m j. cond (eqb m many) (lines_from n d s many j (k + 1)) (Err at))) (Ok (many, k)) ≡ e)
 unfolding lines_from
 lines_turn d s many at k e left = go left.bound left.enough left.same
   where
     go : (b : ℕ) → length s < b + at → lines_from b d s many at k ≡ e
         → (n : ℕ) × (length s < n + (at + 1))
         × (cond (ltb at (length s))
-        (on_line (line_at true d s at) (BreaksAt at) (λ m j. cond (eqb m many) (lines_from n d s many j (k + 1)) (BreaksAt at))) (Whole many k) ≡ e)
+        (on_line (line_at true d s at) (Err at) (λ m j. cond (eqb m many) (lines_from n d s many j (k + 1)) (Err at))) (Ok (many, k)) ≡ e)
     go zero h x = absurd (omega (arith, left.inside))
     go (suc n) h x = (n, omega arith, x)
 
-pub lines_past : (d : ℕ) (s : List ℕ) (many at k : ℕ) (e : Judged) → LinesLeft d s many at k e → length s ≤ at → Whole many k ≡ e
+pub lines_past : (d : ℕ) (s : List ℕ) (many at k : ℕ) (e : Returned (ℕ × ℕ) ℕ) → LinesLeft d s many at k e → length s ≤ at → Ok (many, k) ≡ e
 lines_past d s many at k e left h = rw (le-ltb at (length s) h) at (lines_turn d s many at k e left).2
 
-module _ (d : ℕ) (delimiter : is_delimiter d ≡ true) (s : List ℕ) (many at k : ℕ) (e : Judged) (left : LinesLeft d s many at k e) (l : at < length s)
-    (r : LineRead) (line : r ≡ line_at true d s at) where
-  pub no_line : r ≡ NoLine → BreaksAt at ≡ e
-  no_line q = rw (lt-ltb at (length s) l, sym line ∙ q) at (lines_turn d s many at k e left).2
+module _ (d : ℕ) (delimiter : is_delimiter d ≡ true) (s : List ℕ) (many at k : ℕ) (e : Returned (ℕ × ℕ) ℕ) (left : LinesLeft d s many at k e)
+    (l : at < length s) where
+  pub no_line : None ≡ line_at true d s at → Err at ≡ e
+  no_line q = rw (lt-ltb at (length s) l, sym q) at (lines_turn d s many at k e left).2
 
-  module _ (m j : ℕ) (is : r ≡ Fields m j) where
-    pub other_count : (m ≡ many → ⊥) → BreaksAt at ≡ e
-    other_count n = rw (lt-ltb at (length s) l, sym line ∙ is, ne_eqb m many n) at (lines_turn d s many at k e left).2
+  module _ (m j : ℕ) (line : Some (m, j) ≡ line_at true d s at) where
+    pub other_count : (m ≡ many → ⊥) → Err at ≡ e
+    other_count n = rw (lt-ltb at (length s) l, sym line, ne_eqb m many n) at (lines_turn d s many at k e left).2
 
     pub line_ahead : (at + 2 ≤ j) × (j ≤ length s)
     line_ahead =
-        let f = line_found d delimiter s true at m j (sym line ∙ is) in
+        let f = line_found d delimiter s true at m j (sym line) in
         omega (arith, f.stands.end, f.stands.inside, line_some d f.row)
 
     pub another_line : m ≡ many → LinesLeft d s many j (k + 1) e
@@ -139,7 +137,7 @@ module _ (d : ℕ) (delimiter : is_delimiter d ≡ true) (s : List ℕ) (many at
           bound = t.0;
           enough = omega (arith, t.1, line_ahead.0);
           inside = line_ahead.1;
-          same = rw (lt-ltb at (length s) l, sym line ∙ is, eq-eqb m many q) at t.2;
+          same = rw (lt-ltb at (length s) l, sym line, eq-eqb m many q) at t.2;
           few = omega (arith, left.few, line_ahead.0);
         }
 
@@ -177,27 +175,20 @@ cells_turn d s lent cells at k all left l = go left.bound left.enough left.same
     go zero h x = absurd (omega arith)
     go (suc n) h x = (n, omega arith, x)
 
-module _ (d : ℕ) (s lent cells : List ℕ) (at k : ℕ) (all : List ℕ) (left : CellsLeft d s lent cells at k all) (l : at < length s) (r : FieldRead)
-    (cell : r ≡ cell_at s at) where
-  pub no_cell : r ≡ NoField → cells ≡ put lent 0 all
-  no_cell q =
-      left.is ∙ ap (put lent 0) (sym (append-nil left.front) ∙ (rw (sym cell ∙ q) at (cells_turn d s lent cells at k all left l).2))
+module _ (d : ℕ) (s lent cells : List ℕ) (at k : ℕ) (all : List ℕ) (left : CellsLeft d s lent cells at k all) (l : at < length s) where
+  pub no_cell : None ≡ cell_at s at → cells ≡ put lent 0 all
+  no_cell q = left.is ∙ ap (put lent 0) (sym (append-nil left.front) ∙ (rw (sym q) at (cells_turn d s lent cells at k all left l).2))
 
-  pub cell_ahead : (end : ℕ) → r ≡ End end → (at < end) × (end ≤ length s)
-  cell_ahead end q = cell_found s at end (sym cell ∙ q)
+  module _ (end : ℕ) (cell : Some end ≡ cell_at s at) where
+    pub cell_ahead : (at < end) × (end ≤ length s)
+    cell_ahead = cell_found s at end (sym cell)
 
-  module _ (end : ℕ) (is : r ≡ End end) where
     -- there is room for it
-    pub cell_fits : length all ≤ length lent → k + 2 ≤ length cells
+    pub cell_fits : length all ≤ length lent → (k + 2 ≤ length cells) × (length cells ≡ length lent)
     cell_fits room =
         let t = cells_turn d s lent cells at k all left l in
-        omega (
-          arith,
-          left.count,
-          ap length left.is,
-          length_put lent 0 left.front,
-          simp length-append at (ap length (rw (sym cell ∙ is) at t.2)),
-        )
+        let same = cells_length left in
+        omega (arith, left.count, same, simp length-append at (ap length (rw (sym cell) at t.2)))
 
     -- two numbers more in front
     abbrev front_more : List ℕ
@@ -216,33 +207,31 @@ module _ (d : ℕ) (s lent cells : List ℕ) (at k : ℕ) (all : List ℕ) (left
     more_then : (rest : List ℕ) → left.front ++ (at ∷ ((end - at) ∷ rest)) ≡ all → front_more ++ rest ≡ all
     more_then rest h = simp append_assoc h
 
-    module _ (q : Separator) (found : q ≡ separator_at d s end) where
-      next : (j : ℕ) → at + 2 ≤ j → ((n : ℕ) → on_separator (separator_at d s end) [] (λ a. cells_from n d s a) (λ a. cells_from n d s a) ≡ cells_from n d s j)
-          → CellsLeft d s lent (set (set cells k at) (k + 1) (end - at)) j (k + 2) all
-      next j ahead same =
-          let t = cells_turn d s lent cells at k all left l in
-          record {
-            bound = t.0;
-            enough = omega (arith, t.1);
-            front = front_more;
-            same = more_then (cells_from t.0 d s j) (rw (sym cell ∙ is, same t.0) at t.2);
-            is = stored;
-            count = omega (arith, left.count, length-append (left.front ++ (at ∷ [])) ((end - at) ∷ []), length-append left.front (at ∷ []));
-          }
+    -- another cell stands at j, in the same line or in the next
+    abbrev Next : ℕ → Type 0
+    Next j = (separator_at d s end ≡ after.Field j) ⊎ (separator_at d s end ≡ after.Line j)
 
-      pub cell_ahead_field : (j : ℕ) → q ≡ after.Field j → at + 2 ≤ j
-      cell_ahead_field j h = omega (arith, next_field d s end j (sym found ∙ h), cell_ahead end is)
+    pub next_ahead : (j : ℕ) → Next j → at + 2 ≤ j
+    next_ahead j (inl h) = omega (arith, next_field d s end j h, cell_ahead)
+    next_ahead j (inr h) = omega (arith, next_line d s end j h, cell_ahead)
 
-      pub cell_ahead_line : (j : ℕ) → q ≡ after.Line j → at + 2 ≤ j
-      cell_ahead_line j h = omega (arith, next_line d s end j (sym found ∙ h), cell_ahead end is)
+    pub next_cell : (j : ℕ) → Next j → CellsLeft d s lent (set (set cells k at) (k + 1) (end - at)) j (k + 2) all
+    next_cell j h =
+        let t = cells_turn d s lent cells at k all left l in
+        record {
+          bound = t.0;
+          enough = omega (arith, t.1, next_ahead j h);
+          front = front_more;
+          same = more_then (cells_from t.0 d s j) (rw (sym cell, goes_on t.0 h) at t.2);
+          is = stored;
+          count = omega (arith, left.count, length-append (left.front ++ (at ∷ [])) ((end - at) ∷ []), length-append left.front (at ∷ []));
+        }
+      where
+        goes_on : (n : ℕ) → Next j → on_separator (separator_at d s end) [] (λ a. cells_from n d s a) (λ a. cells_from n d s a) ≡ cells_from n d s j
+        goes_on n (inl q) = rw q
+        goes_on n (inr q) = rw q
 
-      pub cell_then_field : (j : ℕ) → q ≡ after.Field j → CellsLeft d s lent (set (set cells k at) (k + 1) (end - at)) j (k + 2) all
-      cell_then_field j h = next j (cell_ahead_field j h) (λ n. rw (sym found ∙ h))
-
-      pub cell_then_line : (j : ℕ) → q ≡ after.Line j → CellsLeft d s lent (set (set cells k at) (k + 1) (end - at)) j (k + 2) all
-      cell_then_line j h = next j (cell_ahead_line j h) (λ n. rw (sym found ∙ h))
-
-      pub cell_last : q ≡ after.Neither → set (set cells k at) (k + 1) (end - at) ≡ put lent 0 all
-      cell_last h =
-          let t = cells_turn d s lent cells at k all left l in
-          stored ∙ ap (put lent 0) (sym (append-nil front_more) ∙ more_then [] (rw (sym cell ∙ is, sym found ∙ h) at t.2))
+    pub cell_last : after.Neither ≡ separator_at d s end → set (set cells k at) (k + 1) (end - at) ≡ put lent 0 all
+    cell_last found =
+        let t = cells_turn d s lent cells at k all left l in
+        stored ∙ ap (put lent 0) (sym (append-nil front_more) ∙ more_then [] (rw (sym cell, sym found) at t.2))

@@ -19,13 +19,11 @@ use Rattle.scan.specs.Run.{run, run_end}
 use Rattle.scan.proofs.Runs.{run_whole, run_stop, run_past, run_inside}
 use Rattle.word.proofs.Alone.{run_none}
 use Rattle.token.proofs.Ahead.{in_range_lem}
-use Rattle.item.proofs.NumberTokens.{Some, whole_number, pointed_number, signed_number}
+use Rattle.item.proofs.NumberTokens.{Some as SomeNumber, whole_number, pointed_number, signed_number}
 use Rattle.item.proofs.NumeralTokens.{digit_each, first_digit, no_minus}
 use Rattle.report.specs.Reading.{figures_at, numeral_at}
-use Rattle.report.specs.declared.FieldRead.TheVariants.{End, NoField}
-
-pub no_field≢end : {e : ℕ} → NoField ≡ End e → ⊥
-no_field≢end h = let z : ◌≡◌ {A = ℕ} 0 1 = cc in omega arith
+use Rattle.std.proofs.lemmas.Option.{none-some}
+use Rattle.std.specs.declared.option.Option.TheVariants.{Some, None}
 
 -- ---- found
 
@@ -41,7 +39,7 @@ first_of_run s d n = go (is_digit (get_or s d 0)) refl (ltb d (length s)) refl
 pub record NumberFound (s : List ℕ) (i e : ℕ) (minus : Bool) : Type 0 where
   pub ahead : i < e
   pub inside : e ≤ length s
-  pub is : Some (part s i (e - i)) minus
+  pub is : SomeNumber (part s i (e - i)) minus
 
 module _ (s : List ℕ) (d : ℕ) where
   abbrev m : ℕ
@@ -75,25 +73,25 @@ module _ (s : List ℕ) (d : ℕ) where
       let a = m_ahead n in
       rw (← j) (record { ahead = a.0; inside = a.1; is = whole_number s d m (first_of_run s d n) a.1 refl few })
 
-  figures_found : (e : ℕ) → figures_at s d ≡ End e → NumberFound s d e false
+  figures_found : (e : ℕ) → figures_at s d ≡ Some e → NumberFound s d e false
   unfolding figures_at
   figures_found e h =
       go (eqb m d) refl (eqb (get_or s m 0) 46) refl (ltb (m + 1) last && leb last (d + number_digits + 1)) refl (leb m (d + number_digits)) refl h
     where
       go : (a : Bool) → eqb m d ≡ a → (b : Bool) → eqb (get_or s m 0) 46 ≡ b → (t : Bool) → (ltb (m + 1) last && leb last (d + number_digits + 1)) ≡ t
           → (u : Bool) → leb m (d + number_digits) ≡ u
-          → cond a NoField (cond b (cond t (End last) NoField) (cond u (End m) NoField)) ≡ End e → NumberFound s d e false
-      go true p b q t v u w x = absurd (no_field≢end x)
+          → cond a None (cond b (cond t (Some last) None) (cond u (Some m) None)) ≡ Some e → NumberFound s d e false
+      go true p b q t v u w x = absurd (none-some _ x)
       go false p true q true v u w x = pointed e (eqb-false m d p) (eqb-true _ 46 q) v (cc)
-      go false p true q false v u w x = absurd (no_field≢end x)
+      go false p true q false v u w x = absurd (none-some _ x)
       go false p false q t v true w x = whole e (eqb-false m d p) (leb-true _ _ w) (cc)
-      go false p false q t v false w x = absurd (no_field≢end x)
+      go false p false q t v false w x = absurd (none-some _ x)
 
-pub numeral_found : (s : List ℕ) (i e : ℕ) → numeral_at s i ≡ End e → (minus : Bool) × NumberFound s i e minus
+pub numeral_found : (s : List ℕ) (i e : ℕ) → numeral_at s i ≡ Some e → (minus : Bool) × NumberFound s i e minus
 unfolding numeral_at
 numeral_found s i e h = go (eqb (get_or s i 0) 45) refl h
   where
-    go : (t : Bool) → eqb (get_or s i 0) 45 ≡ t → cond t (figures_at s (i + 1)) (figures_at s i) ≡ End e → (minus : Bool) × NumberFound s i e minus
+    go : (t : Bool) → eqb (get_or s i 0) 45 ≡ t → cond t (figures_at s (i + 1)) (figures_at s i) ≡ Some e → (minus : Bool) × NumberFound s i e minus
     go false q x = (false, figures_found s i e x)
     go true q x =
         let f = figures_found s (i + 1) e x in (
@@ -118,7 +116,7 @@ module _ (s : List ℕ) (b : ℕ) (no_digit : is_digit (get_or s b 0) ≡ false)
         rw (stands, run_whole is_digit ds rest (digit_each ds h) (run_none is_digit rest (rw byte no_digit))) e
 
     figures_stand : (f rest : List ℕ) → all_digits f ≡ true → length w + length f ≤ 16 → drop d s ≡ unsigned w f ++ rest → d + length (unsigned w f) ≡ b
-        → figures_at s d ≡ End b
+        → figures_at s d ≡ Some b
     unfolding figures_at run_end run
     figures_stand [] rest h few stands e =
         rw (ends d w rest digits stands e, ne_eqb b d (λ q. omega arith), ne_eqb (get_or s b 0) 46 no_point, le-leb b (d + number_digits) (omega arith))
@@ -141,7 +139,7 @@ module _ (s : List ℕ) (b : ℕ) (no_digit : is_digit (get_or s b 0) ≡ false)
         middle ys q z = rw (q, run_whole is_digit w ys (digit_each w digits) z)
 
   pub numeral_stands : (i : ℕ) (x rest : List ℕ) (minus : Bool) (w f : List ℕ) → Numeral x minus w f → drop i s ≡ x ++ rest → i + length x ≡ b
-      → numeral_at s i ≡ End b
+      → numeral_at s i ≡ Some b
   unfolding numeral_at
   numeral_stands i x rest false w f n stands e =
       let bytes : drop i s ≡ unsigned w f ++ rest = stands ∙ ap (λ (l : List ℕ). l ++ rest) n.bytes in

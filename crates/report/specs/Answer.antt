@@ -1,11 +1,11 @@
 -- What `read_report` returns and leaves (document 02, P1).
 use Rattle.std.specs.Prelude.{ℕ, List}
-use Rattle.counts.specs.Result.{Result, refused_as}
+use Rattle.counts.specs.Result.{Result, paper}
 use Rattle.counts.specs.Result.Result.{refused, done}
 use Rattle.field.specs.Part.{put}
 use Rattle.report.specs.Report.{Told}
-use Rattle.report.specs.declared.ReportRead.{ReportRead}
-use Rattle.report.specs.declared.ReportRead.TheVariants.{Taken, Refused}
+use Rattle.counts.specs.declared.Refusal.{Refusal}
+use Rattle.std.specs.declared.result.Result.{Result as Returned}
 
 -- how many columns and lines of values the report has
 abbrev pub sized : Result Told → Result (ℕ × ℕ)
@@ -18,6 +18,5 @@ filled (done t) lent = put lent 0 t.cells
 filled (refused number place) lent = lent
 
 -- the paper's value of each answer
-abbrev pub paper_report_read : ReportRead → Result (ℕ × ℕ)
-paper_report_read (Taken columns lines) = done (columns, lines)
-paper_report_read (Refused r) = refused_as r
+abbrev pub paper_report_read : Returned (ℕ × ℕ) Refusal → Result (ℕ × ℕ)
+paper_report_read = paper λ size. size

@@ -8,114 +8,64 @@ ghost use Rattle.delimited.specs.Lines.{is_delimiter};
 ghost use Rattle.report.specs.Reading.{name_at, figures_at, string_end, value_at, field_at, cell_at, line_at, lines_from, judged, cells_from, read_report};
 ghost use Rattle.report.specs.Answer.{sized, filled, paper_report_read};
 
-use counts::{
-    COLUMNS, NOT_A_RECORD, NUMBER_DIGITS, OUT_OF_RANGE, Refusal, TEXT_BYTES, TOO_LITTLE_ROOM,
-};
+use counts::{COLUMNS, NUMBER_DIGITS, Reason, Refusal, TEXT_BYTES};
 use delimited::{Separator, is_delimiter, separator_at};
 use field::byte_at;
 use scan::{DIGIT, TEXT, is_letter, run_end};
 use word::{WordRead, is_name, word_at};
 
-// The place after a field, or none stands there.
-#[derive(Clone, Copy)]
-pub enum FieldRead {
-    End(usize),
-    NoField,
-}
-
-// How many fields a line has and the place after it, or no line stands there.
-#[derive(Clone, Copy)]
-pub enum LineRead {
-    Fields(usize, usize),
-    NoLine,
-}
-
-// The columns and the lines of values of a report, or the start of the first line that does not fit.
-#[derive(Clone, Copy)]
-pub enum Judged {
-    Whole(usize, usize),
-    BreaksAt(usize),
-}
-
-// The columns and the lines of values of a report, or why it is not taken.
-#[derive(Clone, Copy)]
-pub enum ReportRead {
-    Taken(usize, usize),
-    Refused(Refusal),
-}
-
-// The name at i.
-fn name_at(s: &[u8], i: usize) -> FieldRead
+// The name at i: the place after it.
+fn name_at(s: &[u8], i: usize) -> Option<usize>
     ensures { result ≡ name_at s.now i }
 {
-    if i < s.len() {
-        if is_letter(s[i]) {
-            let WordRead::Is(w, end) = word_at(s, i) else {
-                return FieldRead::NoField;
-            };
-            if is_name(w) {
-                return FieldRead::End(end);
-            }
-        }
+    if !is_letter(*s.get(i)?) {
+        return None;
     }
-    FieldRead::NoField
+    match word_at(s, i) {
+        WordRead::Is(w, end) if is_name(w) => Some(end),
+        _ => None,
+    }
 }
 
-// The digits from d on, with a point between two of them where one stands: at most 16.
-fn figures_at(s: &[u8], d: usize) -> FieldRead
+// The digits from d on, with a point between two of them where one stands, at most 16: the place after them.
+fn figures_at(s: &[u8], d: usize) -> Option<usize>
     requires { d ≤ length s.now }
     ensures { result ≡ figures_at s.now d }
 {
     let whole = run_end(s, d, DIGIT);
     if whole == d {
-        return FieldRead::NoField;
+        return None;
     }
-    if byte_at(s, whole) == 46 {
+    if byte_at(s, whole) == b'.' {
         let end = run_end(s, whole + 1, DIGIT);
-        if (whole + 1 < end) & (end <= d + NUMBER_DIGITS + 1) {
-            return FieldRead::End(end);
-        }
-        return FieldRead::NoField;
+        ((whole + 1 < end) & (end <= d + NUMBER_DIGITS + 1)).then_some(end)
+    } else {
+        (whole <= d + NUMBER_DIGITS).then_some(whole)
     }
-    if whole <= d + NUMBER_DIGITS {
-        return FieldRead::End(whole);
-    }
-    FieldRead::NoField
 }
 
-// The string that opens at i.
-fn string_at(s: &[u8], i: usize) -> FieldRead
+// The string that opens at i: the place after it.
+fn string_at(s: &[u8], i: usize) -> Option<usize>
     requires { (i < length s.now) × (get_or s.now i 0 ≡ 34) }
     ensures { result ≡ string_end s.now i }
 {
     let end = run_end(s, i + 1, TEXT);
-    if end - (i + 1) <= TEXT_BYTES {
-        if byte_at(s, end) == 34 {
-            return FieldRead::End(end + 1);
-        }
-    }
-    FieldRead::NoField
+    ((end - (i + 1) <= TEXT_BYTES) & (byte_at(s, end) == b'"')).then_some(end + 1)
 }
 
-// The value at i: a string, or a number with or without a sign.
-fn value_at(s: &[u8], i: usize) -> FieldRead
+// The value at i, a string or a number with or without a sign: the place after it.
+fn value_at(s: &[u8], i: usize) -> Option<usize>
     ensures { result ≡ value_at s.now i }
 {
-    if i < s.len() {
-        let b = s[i];
-        if b == 34 {
-            return string_at(s, i);
-        }
-        if b == 45 {
-            return figures_at(s, i + 1);
-        }
-        return figures_at(s, i);
+    match *s.get(i)? {
+        b'"' => string_at(s, i),
+        b'-' => figures_at(s, i + 1),
+        _ => figures_at(s, i),
     }
-    FieldRead::NoField
 }
 
-// The name at i, or where values are looked for the value.
-pub fn field_at(s: &[u8], i: usize, values: bool) -> FieldRead
+// The name at i, or where values are looked for the value: the place after it.
+pub fn field_at(s: &[u8], i: usize, values: bool) -> Option<usize>
     ensures { result ≡ field_at values s.now i }
 {
     if values {
@@ -125,8 +75,8 @@ pub fn field_at(s: &[u8], i: usize, values: bool) -> FieldRead
     }
 }
 
-// The name or the value at i.
-fn cell_at(s: &[u8], i: usize) -> FieldRead
+// The name or the value at i: the place after it.
+fn cell_at(s: &[u8], i: usize) -> Option<usize>
     ensures { result ≡ cell_at s.now i }
 {
     if is_letter(byte_at(s, i)) {
@@ -136,34 +86,27 @@ fn cell_at(s: &[u8], i: usize) -> FieldRead
     }
 }
 
-// The line that begins at i.
-fn line_at(s: &[u8], i: usize, d: u8, values: bool) -> LineRead
+// The line that begins at i: how many fields it has, and the place after it.
+fn line_at(s: &[u8], i: usize, d: u8, values: bool) -> Option<(usize, usize)>
     ensures { result ≡ line_at values d s.now i }
 {
     let mut at = i;
     let mut k = 0;
     while at < s.len() {
-        let FieldRead::End(end) = field_at(s, at, values) else {
-            return LineRead::NoLine;
-        };
+        let end = field_at(s, at, values)?;
         k += 1;
         match separator_at(s, end, d) {
-            Separator::Field(next) => {
-                at = next;
-            }
-            Separator::Line(next) => {
-                return LineRead::Fields(k, next);
-            }
-            Separator::Neither => {
-                return LineRead::NoLine;
-            }
+            Separator::Field(next) => at = next,
+            Separator::Line(next) => return Some((k, next)),
+            Separator::Neither => return None,
         }
     }
-    LineRead::NoLine
+    None
 }
 
-// The lines of values from the place i on, of as many values as there are columns.
-fn lines_from(s: &[u8], i: usize, d: u8, columns: usize) -> Judged
+// The lines of values from the place i on, of as many values as there are columns: the columns and how many lines there are, or the start of the
+// first line that does not fit.
+fn lines_from(s: &[u8], i: usize, d: u8, columns: usize) -> Result<(usize, usize), usize>
     requires { (is_delimiter d ≡ true) × (i ≤ length s.now) }
     ensures { result ≡ lines_from (suc (length s.now)) d s.now columns i 0 }
 {
@@ -171,34 +114,25 @@ fn lines_from(s: &[u8], i: usize, d: u8, columns: usize) -> Judged
     let mut k = 0;
     while at < s.len() {
         match line_at(s, at, d, true) {
-            LineRead::Fields(n, next) => {
-                if n == columns {
-                    k += 1;
-                    at = next;
-                } else {
-                    return Judged::BreaksAt(at);
-                }
+            Some((n, next)) if n == columns => {
+                k += 1;
+                at = next;
             }
-            LineRead::NoLine => {
-                return Judged::BreaksAt(at);
-            }
+            _ => return Err(at),
         }
     }
-    Judged::Whole(columns, k)
+    Ok((columns, k))
 }
 
-// The whole report.
-fn judge(s: &[u8], d: u8) -> Judged
+// The whole report: its columns and its lines of values, or the start of the first line that does not fit.
+fn judge(s: &[u8], d: u8) -> Result<(usize, usize), usize>
     requires { is_delimiter d ≡ true }
     ensures { result ≡ judged d s.now }
 {
-    let LineRead::Fields(n, next) = line_at(s, 0, d, false) else {
-        return Judged::BreaksAt(0);
-    };
-    if n <= COLUMNS {
-        return lines_from(s, next, d, n);
+    match line_at(s, 0, d, false) {
+        Some((columns, next)) if columns <= COLUMNS => lines_from(s, next, d, columns),
+        _ => Err(0),
     }
-    Judged::BreaksAt(0)
 }
 
 // Writes the place and the length of each field to the front of the cells.
@@ -209,46 +143,42 @@ fn fill(s: &[u8], d: u8, cells: &mut [usize])
     let mut at = 0;
     let mut k = 0;
     while at < s.len() {
-        let FieldRead::End(stop) = cell_at(s, at) else {
+        let Some(stop) = cell_at(s, at) else {
             return;
         };
         cells[k] = at;
         cells[k + 1] = stop - at;
         k += 2;
         match separator_at(s, stop, d) {
-            Separator::Field(next) => {
-                at = next;
-            }
-            Separator::Line(next) => {
-                at = next;
-            }
-            Separator::Neither => {
-                return;
-            }
+            Separator::Field(next) | Separator::Line(next) => at = next,
+            Separator::Neither => return,
         }
     }
 }
 
-// Reads a report: the place and the length in the file of each name and each value, in order, go to the front of the lent cells.
-pub fn read_report(file: &[u8], delimiter: u8, cells: &mut [usize]) -> ReportRead
+// Reads a report: the place and the length in the file of each name and each value, in order, go to the front of the lent cells. It gives how many
+// columns and lines of values there are.
+pub fn read_report(
+    file: &[u8],
+    delimiter: u8,
+    cells: &mut [usize],
+) -> Result<(usize, usize), Refusal>
     ensures { (paper_report_read result ≡ sized (read_report delimiter file.now (length cells.old))) × (cells.new ≡ filled (read_report delimiter file.now (length cells.old)) cells.old) }
 {
-    if is_delimiter(delimiter) {
-        match judge(file, delimiter) {
-            Judged::Whole(columns, lines) => {
-                if 2 * (columns * (lines + 1)) <= cells.len() {
-                    fill(file, delimiter, cells);
-                    return ReportRead::Taken(columns, lines);
-                }
-                return ReportRead::Refused(Refusal::plain(TOO_LITTLE_ROOM));
-            }
-            Judged::BreaksAt(place) => {
-                return ReportRead::Refused(Refusal {
-                    number: NOT_A_RECORD,
-                    place,
-                });
-            }
-        }
+    if !is_delimiter(delimiter) {
+        return Err(Reason::OutOfRange.into());
     }
-    ReportRead::Refused(Refusal::plain(OUT_OF_RANGE))
+    match judge(file, delimiter) {
+        Ok((columns, lines)) => {
+            if cells.len() < 2 * (columns * (lines + 1)) {
+                return Err(Reason::TooLittleRoom.into());
+            }
+            fill(file, delimiter, cells);
+            Ok((columns, lines))
+        }
+        Err(place) => Err(Refusal {
+            reason: Reason::NotARecord,
+            place,
+        }),
+    }
 }

@@ -14,7 +14,7 @@ use Rattle.counts.proofs.Results.{refused_not_done}
 use Rattle.delimited.specs.Lines.{is_delimiter}
 use Rattle.report.specs.Report.{Rows, Report, Breaks, Told, told}
 use Rattle.report.specs.Reading.{read_report}
-use Rattle.report.specs.declared.Judged.{Judged}
+use Rattle.std.specs.declared.result.Result.{Result as Returned}
 use Rattle.report.proofs.Reports.{Judgement, taken, broken, judged_so, judged_only}
 use Rattle.report.proofs.Cells.{report_cells, report_sized}
 use Rattle.report_claims.specs.Rows.{ReadReportRow, eleven, seven, eight, report_read}
@@ -44,7 +44,7 @@ module _ (d : ℕ) (s : List ℕ) (room : ℕ) where
   read_rows false e = rw e (eleven e)
   read_rows true e = go (judged_so d e s)
     where
-      go : {x : Judged} → Judgement d e s x → ReadReportRow d s room (read_report d s room)
+      go : {x : Returned (ℕ × ℕ) ℕ} → Judgement d e s x → ReadReportRow d s room (read_report d s room)
       go (broken {p = p} h) = rw (broken_at e p h) (seven e h)
       go (taken r h) = rw (told_of e r h) (by_room (leb (length (told d r).cells) room) refl)
         where

@@ -16,7 +16,7 @@ use Rattle.delimited.proofs.Lines.{line_some, each_so}
 use Rattle.report.specs.Report.{Rows, report_text, Report, Told, told}
 use Rattle.report.specs.Reading.{read_report}
 use Rattle.report.proofs.Reports.{taken, judged_only}
-use Rattle.report.proofs.Cells.{report_cells}
+use Rattle.report.proofs.Cells.{same_size, report_cells}
 use Rattle.report_write.specs.Writing.{written}
 use Rattle.report_claims.specs.Rows.{Given, ReadAs, ReadReportRow, eleven, seven, eight, report_read, report_written}
 use Rattle.report_claims.proofs.Read.{read_report_exactly}
@@ -90,7 +90,7 @@ pub one_report : (d : ℕ) → is_delimiter d ≡ true → (s : List ℕ) (r q :
 one_report d is s r q h k =
     let e = judged_only d is s _ (taken r h) in
     let f = judged_only d is s _ (taken q k) in
-    let many : length r.names ≡ length q.names = cc in
+    let many = (same_size (sym e ∙ f)).0 in
     let cells : (told d q).cells ≡ (told d r).cells = sym (report_cells d is s q k) ∙ report_cells d is s r h in
     let same : fields (r.names ∷ r.values) ≡ fields (q.names ∷ q.values) = one_parts (report_parts d r s h) (rw cells at (report_parts d q s k)) in
     let rows =

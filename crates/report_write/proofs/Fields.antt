@@ -11,8 +11,8 @@ use Rattle.laws.proofs.Choose.{and_left, and_right, and_both}
 use Rattle.field.specs.Part.{part}
 use Rattle.field.proofs.Parts.{part_all}
 use Rattle.report.specs.Reading.{field_at, on_field}
-use Rattle.report.specs.declared.FieldRead.{FieldRead}
-use Rattle.report.specs.declared.FieldRead.TheVariants.{End, NoField}
+use Rattle.std.specs.declared.option.Option.{Option}
+use Rattle.std.specs.declared.option.Option.TheVariants.{Some, None}
 use Rattle.report.proofs.Fields.{nothing_stops, Field, field_found, field_stands}
 use Rattle.report_write.specs.Writing.{is_field, is_cell}
 
@@ -21,9 +21,9 @@ module _ (values : Bool) (x : List ℕ) where
   unfolding is_field
   tested_field h = go (field_at values x 0) refl h
     where
-      go : (f : FieldRead) → field_at values x 0 ≡ f → on_field f false (λ e. eqb e (length x)) ≡ true → Field values x
-      go NoField q t = absurd (false≢true t)
-      go (End e) q t =
+      go : (f : Option ℕ) → field_at values x 0 ≡ f → on_field f false (λ e. eqb e (length x)) ≡ true → Field values x
+      go None q t = absurd (false≢true t)
+      go (Some e) q t =
           let all : e ≡ length x = eqb-true e (length x) t in
           let same : part x 0 (e - 0) ≡ x = part_all x (e - 0) (omega arith) in
           subst (Field values) same (field_found values x 0 e q).is

@@ -5,7 +5,6 @@ use mathlib.Core.Bool.{Bool, true, false, true≢false, cond, ◌&&◌, ◌||◌
 use mathlib.Core.List.{List, [], ◌∷◌, ◌++◌, append_assoc, append-nil}
 use native.Mathlib.Numerals.{add-one}
 use native.Mathlib.Omega.{arith}
-use borrow.Author.Rules.{rules}
 use borrow.Author.Tests.{eqb-true, eqb-false, le-leb, lt-leb, leb-true, leb-false}
 use lib.Dec.{eqb, leb}
 use lib.ListN.{length, get_or, take, drop, length-append, drop_of_length-le}
@@ -15,22 +14,23 @@ use Rattle.field.specs.Part.{part, Wrote}
 use Rattle.field.proofs.Parts.{length_part_in}
 use Rattle.field.proofs.Put.{then, as_bytes, put_nil, wrote_length}
 use Rattle.delimited.specs.Lines.{separator}
-use Rattle.report.specs.Reading.{field_at}
-use Rattle.report.specs.declared.FieldRead.{FieldRead}
-use Rattle.report.specs.declared.FieldRead.TheVariants.{End, NoField}
+use Rattle.report.specs.Reading.{field_at, on_field}
+use Rattle.std.specs.Option.{option_eq}
+use Rattle.std.specs.declared.option.Option.{Option}
+use Rattle.std.specs.declared.option.Option.TheVariants.{Some, None}
 use Rattle.report_write.specs.Writing.{is_field, is_cell, left_after, are_lines, text_from}
 use Rattle.report_write.proofs.Fields.{IsCell, tested_cell}
 
 -- ---- one field, as code tests it
 
-module _ (values : Bool) (x : List ℕ) (r : FieldRead) (field : r ≡ field_at values x 0) where
-  pub is_one : (e : ℕ) → r ≡ End e → eqb e (length x) ≡ is_field values x
-  unfolding is_field
-  is_one e q = rw (sym field ∙ q)
-
-  pub is_none : r ≡ NoField → false ≡ is_field values x
-  unfolding is_field
-  is_none q = rw (sym field ∙ q)
+pub is_one : (values : Bool) (x : List ℕ) (r : Option ℕ) → r ≡ field_at values x 0 → {t : Bool} → t ≡ option_eq eqb r (Some (length x))
+    → t ≡ is_field values x
+unfolding is_field
+is_one values x r field h = h ∙ rw (← field) (go r)
+  where
+    go : (r : Option ℕ) → option_eq eqb r (Some (length x)) ≡ on_field r false (λ e. eqb e (length x))
+    go (Some e) = refl
+    go None = refl
 
 -- the part of a slice that code hands on
 pub handed_on : (source : List ℕ) (p n : ℕ) → take (p + n - p) (drop p source) ≡ part source p n
@@ -50,8 +50,6 @@ module _ (values : Bool) (source : List ℕ) (p n : ℕ) where
   pub cell_past : length source < p → false ≡ is_cell values source p n
   unfolding is_cell
   cell_past h = rw (lt-leb (p + n) (length source) (omega arith))
-
-pub ruleset cell = (rules, is_one, is_none, cell_inside, cell_long, cell_past)
 
 -- ---- the loops
 

@@ -2,13 +2,13 @@
 use Rattle.std.specs.Prelude.{ℕ, ◌+◌, ◌-◌, Bool, false, cond, ◌&&◌, ◌||◌, List, [], ◌∷◌, ◌++◌, eqb, leb, length}
 use Rattle.counts.specs.Limits.{columns}
 use Rattle.counts.specs.Refusals.{out_of_range, not_a_record, too_little_room}
-use Rattle.counts.specs.Result.{Result, refused_as}
+use Rattle.counts.specs.Result.{Result, paper}
 use Rattle.counts.specs.Result.Result.{refused, done}
 use Rattle.field.specs.Part.{part, put}
 use Rattle.delimited.specs.Lines.{is_delimiter, separator}
 use Rattle.report.specs.Reading.{field_at, on_field}
-use Rattle.report_write.specs.declared.ReportWritten.{ReportWritten}
-use Rattle.report_write.specs.declared.ReportWritten.TheVariants.{Bytes, Refused}
+use Rattle.counts.specs.declared.Refusal.{Refusal}
+use Rattle.std.specs.declared.result.Result.{Result as Returned}
 
 -- ---- Need not be believed: a report as it is written, cell by cell. `writes_report` of the page of claims ties it to `Report`.
 
@@ -66,6 +66,5 @@ filled (done text) out = put out 0 text
 filled (refused number place) out = out
 
 -- the paper's value of each answer
-abbrev pub paper_report_written : ReportWritten → Result ℕ
-paper_report_written (Bytes n) = done n
-paper_report_written (Refused r) = refused_as r
+abbrev pub paper_report_written : Returned ℕ Refusal → Result ℕ
+paper_report_written = paper λ n. n

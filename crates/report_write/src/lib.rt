@@ -2,43 +2,28 @@
 #![tactic(auto)]
 
 ghost use Rattle.std.specs.Prelude.{◌≡◌, true, false, cond, ◌++◌, ◌+◌, ◌≤◌, eqb, leb, length};
-ghost use Rattle.counts.specs.Result.{counted};
+ghost use Rattle.counts.specs.Result.{counted, refused_by};
 ghost use Rattle.field.specs.Part.{part, Wrote};
 ghost use Rattle.delimited.specs.Lines.{separator};
 ghost use Rattle.report_write.specs.Writing.{is_field, is_cell, left_after, are_lines, text_from, may_write, write_refusal, written, filled, paper_report_written};
 
-use counts::{COLUMNS, NOT_A_RECORD, OUT_OF_RANGE, Refusal, TOO_LITTLE_ROOM};
+use counts::{COLUMNS, Reason, Refusal};
 use delimited::{is_delimiter, put_separator};
 use field::put_bytes;
-use report::{FieldRead, field_at};
-
-// How many bytes were written, or why none.
-#[derive(Clone, Copy)]
-pub enum ReportWritten {
-    Bytes(usize),
-    Refused(Refusal),
-}
+use report::field_at;
 
 // Whether the bytes are one name, or where values are written one value.
 fn is_field(x: &[u8], values: bool) -> bool
     ensures { result ≡ is_field values x.now }
 {
-    let FieldRead::End(end) = field_at(x, 0, values) else {
-        return false;
-    };
-    end == x.len()
+    field_at(x, 0, values) == Some(x.len())
 }
 
 // Whether the n bytes of the source from p on are one.
 fn is_cell(source: &[u8], p: usize, n: usize, values: bool) -> bool
     ensures { result ≡ is_cell values source.now p n }
 {
-    if p <= source.len() {
-        if n <= source.len() - p {
-            return is_field(&source[p..p + n], values);
-        }
-    }
-    false
+    p <= source.len() && n <= source.len() - p && is_field(&source[p..p + n], values)
 }
 
 fn left_after(columns: usize, left: usize) -> usize
@@ -135,36 +120,38 @@ fn may_write(d: u8, columns: usize) -> bool
     is_delimiter(d) & (1 <= columns) & (columns <= COLUMNS)
 }
 
-// Which refusal the cells and the room for their text get, and 0 for none.
-fn write_refusal(source: &[u8], cells: &[usize], columns: usize, d: u8, room: usize) -> u32
-    ensures { result ≡ write_refusal source.now cells.now columns d room }
+// Why the cells and the room for their text are refused, if they are.
+fn write_refusal(
+    source: &[u8],
+    cells: &[usize],
+    columns: usize,
+    d: u8,
+    room: usize,
+) -> Result<(), Reason>
+    ensures { refused_by result ≡ write_refusal source.now cells.now columns d room }
 {
-    if may_write(d, columns) {
-        if are_lines(source, cells, columns) {
-            if has_room(source, cells, columns, d, room) {
-                return 0;
-            }
-            return TOO_LITTLE_ROOM;
-        }
-        return NOT_A_RECORD;
+    if !may_write(d, columns) {
+        return Err(Reason::OutOfRange);
     }
-    OUT_OF_RANGE
+    if !are_lines(source, cells, columns) {
+        return Err(Reason::NotARecord);
+    }
+    if !has_room(source, cells, columns, d, room) {
+        return Err(Reason::TooLittleRoom);
+    }
+    Ok(())
 }
 
-// Writes the report of the cells at the start of out. Every other byte of out stays.
+// Writes the report of the cells at the start of out, and gives how many bytes it wrote. Every other byte of out stays.
 pub fn write_report(
     source: &[u8],
     cells: &[usize],
     columns: usize,
     delimiter: u8,
     out: &mut [u8],
-) -> ReportWritten
+) -> Result<usize, Refusal>
     ensures { (paper_report_written result ≡ counted (written source.now cells.now columns delimiter (length out.old))) × (out.new ≡ filled (written source.now cells.now columns delimiter (length out.old)) out.old) }
 {
-    let refused = write_refusal(source, cells, columns, delimiter, out.len());
-    if refused == 0 {
-        ReportWritten::Bytes(put_cells(source, cells, columns, delimiter, out))
-    } else {
-        ReportWritten::Refused(Refusal::plain(refused))
-    }
+    write_refusal(source, cells, columns, delimiter, out.len())?;
+    Ok(put_cells(source, cells, columns, delimiter, out))
 }

@@ -1,21 +1,16 @@
 -- `report::judge` meets its contract.
+use mathlib.Core.Path.{sym, ◌∙◌}
 use Rattle.report.proofs.Answers.{no_names, names_inside, names_then, too_many_names}
 use Rattle.report.proofs.judge.Goals as goal
 
-pub returns-in_default : goal.returns-in_default
-returns-in_default c = no_names _ _ _ c.line_at.ensures c.in_default.is
-
 pub lines_from-requires : goal.lines_from-requires
-lines_from-requires c = (
-  c.requires,
-  names_inside _ _ _
-      c.line_at.ensures _ _ c.in-Fields.is c.requires,
-)
+lines_from-requires c = (c.requires, names_inside _ _ _ _ c.in-Some.ensures c.requires)
 
-pub returns-then-n-le-COLUMNS : goal.returns-then-n-le-COLUMNS
-returns-then-n-le-COLUMNS c =
-    names_then _ _ _ c.line_at.ensures _ _ c.in-Fields.is _
-    c.if-n-le-COLUMNS.true c.lines_from.ensures
+pub returns-in-Some : goal.returns-in-Some
+returns-in-Some c = names_then _ _ _ _ c.in-Some.ensures _ c.if-columns-le-COLUMNS.true c.lines_from.ensures
 
-pub returns : goal.returns
-returns c = too_many_names _ _ _ c.line_at.ensures _ _ c.in-Fields.is c.if-n-le-COLUMNS.false
+pub returns-in_default : goal.returns-in_default
+returns-in_default c = too_many_names _ _ _ _ c.in-Some.ensures c.if-columns-le-COLUMNS.false
+
+pub returns-in_default-2 : goal.returns-in_default-2
+returns-in_default-2 c = no_names _ _ (sym c.in_default.is ∙ c.line_at.ensures)

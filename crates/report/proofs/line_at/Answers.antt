@@ -1,3 +1,4 @@
+use mathlib.Core.Path.{◌∙◌}
 use native.Mathlib.Omega.{arith}
 use Rattle.report.proofs.Loops.{fields_start, fields_past, no_field, field_room, another_ahead, another, line_over, neither}
 use Rattle.report.proofs.line_at.Goals as goal
@@ -5,47 +6,26 @@ use Rattle.report.proofs.line_at.Goals as goal
 pub loop-at-init : goal.loop-at-init
 loop-at-init c = fields_start _ _ _ _
 
-pub returns-in_default : goal.returns-in_default
-returns-in_default c =
-    no_field _ _ _ _ _ _ c.loop-at.invariant c.loop-at-test.true _
-    c.field_at.ensures c.in_default.is
+pub returns-in_err-end : goal.returns-in_err-end
+returns-in_err-end c = c.from_residual.ensures ∙ no_field _ _ _ _ _ _ c.loop-at.invariant c.loop-at-test.true c.in_err-end.ensures
 
 pub overflow_add-k : goal.overflow_add-k
 overflow_add-k c = omega (arith, c.loop-at.invariant.few)
 
 pub separator_at-requires : goal.separator_at-requires
-separator_at-requires c =
-    (field_room _ _ _ _ _ _ c.loop-at.invariant
-    c.loop-at-test.true _ c.field_at.ensures _ c.in-End.is).1
+separator_at-requires c = (field_room _ _ _ _ _ _ c.loop-at.invariant c.loop-at-test.true _ c.in_ok-end.ensures).1
 
 pub loop-at-smaller : goal.loop-at-smaller
-loop-at-smaller c = omega (
-  arith,
-  another_ahead _ _ _ _ _ _ c.loop-at.invariant
-      c.loop-at-test.true _
-      c.field_at.ensures _ c.in-End.is _
-      c.separator_at.ensures _ c.in-Field.is,
-)
+loop-at-smaller c = omega (arith, another_ahead _ _ _ _ _ _ c.loop-at.invariant c.loop-at-test.true _ c.in_ok-end.ensures _ c.in-Field.ensures)
 
 pub loop-at-preserved : goal.loop-at-preserved
-loop-at-preserved c =
-    another _ _ _ _ _ _ c.loop-at.invariant
-    c.loop-at-test.true _
-    c.field_at.ensures _ c.in-End.is _
-    c.separator_at.ensures _ c.in-Field.is
+loop-at-preserved c = another _ _ _ _ _ _ c.loop-at.invariant c.loop-at-test.true _ c.in_ok-end.ensures _ c.in-Field.ensures
 
 pub returns-in-Line : goal.returns-in-Line
-returns-in-Line c =
-    line_over _ _ _ _ _ _ c.loop-at.invariant
-    c.loop-at-test.true _
-    c.field_at.ensures _ c.in-End.is _
-    c.separator_at.ensures _ c.in-Line.is
+returns-in-Line c = line_over _ _ _ _ _ _ c.loop-at.invariant c.loop-at-test.true _ c.in_ok-end.ensures _ c.in-Line.ensures
 
 pub returns-in-Neither : goal.returns-in-Neither
-returns-in-Neither c =
-    neither _ _ _ _ _ _ c.loop-at.invariant
-    c.loop-at-test.true _ c.field_at.ensures _
-    c.in-End.is _ c.separator_at.ensures c.in-Neither.is
+returns-in-Neither c = neither _ _ _ _ _ _ c.loop-at.invariant c.loop-at-test.true _ c.in_ok-end.ensures c.in-Neither.ensures
 
 pub returns : goal.returns
 returns c = fields_past _ _ _ _ _ _ c.loop-at.invariant c.loop-at-test.false
