@@ -23,7 +23,7 @@ use sessions::Answer;
 use slot::{Head, answer_slot, get_head, open_number, put_head};
 use table_layout::{Table, get_table, put_hand, put_last, put_mark, put_table};
 use table_reply::{reply_length, write_reply};
-use table_search::{SessionFound, lowest_open, next_waiting, ready_session};
+use table_search::{lowest_open, next_waiting, ready_session};
 use table_sound::is_sound;
 
 #[derive(Clone, Copy)]
@@ -106,7 +106,7 @@ fn place_lowest(b: &mut [u8], program: u32, count: u32) -> SessionPlaced
     requires { (sound_bytes b.old ≡ true) × ((within 1 program programs && within 1 count commands) ≡ true) }
     ensures { (paper_placed result ≡ placing b.old program count) × (b.new ≡ placed_bytes b.old program count) }
 {
-    let SessionFound::At(s) = lowest_open(b) else {
+    let Some(s) = lowest_open(b) else {
         return SessionPlaced::Refused(Refusal::plain(ALL_TAKEN));
     };
     let last = get_table(b).last;
@@ -159,7 +159,7 @@ fn take_up_next(b: &mut [u8]) -> TakenUp
     requires { (sound_bytes b.old ≡ true) × (number b.old hand_at ≡ 0) }
     ensures { (paper_taken_up result ≡ taking_up b.old) × (b.new ≡ taken_bytes b.old) }
 {
-    let SessionFound::At(s) = next_waiting(b) else {
+    let Some(s) = next_waiting(b) else {
         return TakenUp::Refused(Refusal::plain(NOTHING_UNANSWERED));
     };
     take_up_at(b, s)
@@ -250,7 +250,7 @@ fn collect_ready(b: &mut [u8], program: u32, ticket: Ticket, out: &mut [u8]) -> 
     requires { (sound_bytes b.old ≡ true) × (within 1 program programs ≡ true) }
     ensures { Collects b.old program ticket.0 out.old result b.new out.new }
 {
-    let SessionFound::At(s) = ready_session(b, program, ticket) else {
+    let Some(s) = ready_session(b, program, ticket) else {
         return Collected::Refused(Refusal::plain(NOT_THE_ONE));
     };
     let n = get_head(b, s).count;

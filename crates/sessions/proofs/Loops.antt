@@ -39,13 +39,10 @@ all_same p q (suc n) h = rw (all_same p q n (λ i l. h i (omega arith)), h n (om
 
 -- ---- the lowest number below n
 
-pub find_none : (p : ℕ → Bool) → find 0 p ≡ none
+pub find_nothing : (p : ℕ → Bool) (n : ℕ) → ((i : ℕ) → i < n → p i ≡ false) → find n p ≡ none
 unfolding find
-find_none p = refl
-
-pub find_more : (p : ℕ → Bool) {n : ℕ} → find n p ≡ none → p n ≡ false → find (n + 1) p ≡ none
-unfolding find
-find_more p {n} h e = rw (add-one, h, e)
+find_nothing p zero h = refl
+find_nothing p (suc n) h = rw (find_nothing p n (λ i l. h i (omega arith)), h n (omega arith))
 
 -- where a search ends
 pub find_hit : (p : ℕ → Bool) (m : ℕ) {n : ℕ} → find n p ≡ none → p n ≡ true → n < m → find m p ≡ at n
@@ -53,9 +50,6 @@ unfolding find
 find_hit p zero h e l = absurd (omega arith)
 find_hit p (suc m) {n} h e l =
     ⊎_elim (λ q. rw (← q, h, e)) (λ k. rw (find_hit p m h e k)) (eq-or-lt_of_le {n = n} {m = m} (omega arith))
-
-pub find_end : (p : ℕ → Bool) {i n : ℕ} → find i p ≡ none → i ≡ n → find n p ≡ none
-find_end p h e = rw (← e) h
 
 -- what a search says that found one
 pub find_at : (p : ℕ → Bool) (n : ℕ) {i : ℕ} → find n p ≡ at i → (i < n) × (p i ≡ true)

@@ -1,35 +1,57 @@
--- The turn, and what a search that ended says.
-use Prim.Native.Nat.{ℕ}
+-- What a search among the numbers says, and the session that it found.
+use Prim.Native.Nat.{ℕ, ◌≤◌, ◌<◌}
 use mathlib.Core.Path.{◌≡◌, ◌∙◌, ap, sym}
-use mathlib.Core.Bool.{Bool}
+use mathlib.Core.Bool.{Bool, true, false}
 use mathlib.Core.List.{List}
+use native.Mathlib.Omega.{arith}
+use Rattle.std.specs.Option.{MatchOption, IsSomeAnd}
+use Rattle.std.specs.declared.option.Option.{Option}
+use Rattle.std.specs.declared.option.Option.TheVariants.{Some, None}
+use Rattle.counts.specs.Limits.{sessions}
 use Rattle.counts.specs.declared.SessionNumber.{SessionNumber}
-use Rattle.sessions.specs.Find.{Found, none, at}
-use Rattle.sessions.specs.Table.{is_waiting, turn_from, turn}
-use Rattle.slot.specs.Fields.{slot_of}
-use Rattle.table_layout.specs.Layout.{table_of}
-use Rattle.table_layout.specs.declared.Table.{Table}
-use Rattle.table_search.specs.Search.{paper_found, next_in, turned, waiting_in}
-use Rattle.table_search.specs.declared.SessionFound.{SessionFound}
-use Rattle.table_search.specs.declared.SessionFound.TheVariants.{At, Nothing}
+use Rattle.sessions.proofs.Loops.{find_nothing, find_hit}
+use Rattle.sessions.specs.Find.{Found, none, at, find}
+use Rattle.sessions.specs.Table.{turn}
+use Rattle.table_search.specs.Search.{paper_found, turned}
 use Rattle.table_sound.specs.Bytes.{abs}
 
-module _ (b : List ℕ) (t : Table) (q : t ≡ table_of b) (i s : ℕ) (e : s ≡ turn_from t.mark.0 t.max i) where
-  -- the turn as code takes it from the table's own row
-  turn_is : s ≡ turn (abs b) i
-  unfolding table_of
-  turn_is = e ∙ rw q
+-- what a search says that asks one number after the other: its test is p, of the numbers that sessions have
+pub first_is : (p : ℕ → Bool) (n max : ℕ) → n ≡ max → max ≤ sessions → (r : Option ℕ)
+    → MatchOption r ((k : ℕ) → 0 ≤ k → k < n → k < sessions → p k ≡ false)
+    (λ i. (0 ≤ i) × (i < n) × (i < sessions → p i ≡ true) × ((k : ℕ) → 0 ≤ k → k < i → k < sessions → p k ≡ false))
+    → MatchOption r (find max p ≡ none) (λ i. (i < max) × (find max p ≡ at i))
+first_is p n max q few None h = find_nothing p max (λ k l. h k (omega arith) (omega arith) (omega arith))
+first_is p n max q few (Some i) h =
+    let l : i < max = omega (arith, h.1) in
+    (l, find_hit p max (find_nothing p i (λ k m. h.3 k (omega arith) m (omega arith))) (h.2 (omega arith)) l)
 
-  pub waiting_in_turn : {v : Bool} → is_waiting (slot_of b s) ≡ v → is_waiting (slot_of b (turn (abs b) i)) ≡ v
-  waiting_in_turn d = ap (λ k. is_waiting (slot_of b k)) (sym turn_is) ∙ d
+module _ (f : Found) (n : ℕ) where
+  abbrev pub Ended : Option ℕ → Type 0
+  Ended r = MatchOption r (f ≡ none) (λ i. (i < n) × (f ≡ at i))
 
-  -- where the search ended i places on
-  pub turned_at : next_in b ≡ at i → at s ≡ waiting_in b
-  turned_at f = ap at turn_is ∙ sym (ap (turned (abs b)) f)
+  pub found_below : (r : Option ℕ) → Ended r → (i : ℕ) → r ≡ Some i → i < n
+  found_below r e i q = (rw q at e).0
 
-module _ (r : SessionFound) (f : Found) (p : paper_found r ≡ f) where
-  pub found_at : (s : SessionNumber) → r ≡ At s → f ≡ at s.0
+  -- the session that code makes of the number found
+  module _ (Q : ℕ → SessionNumber → Type 0) where
+    abbrev pub Made : Option ℕ → Option SessionNumber → Type 0
+    Made r s = MatchOption r (s ≡ None) (λ i. IsSomeAnd s (Q i))
+
+    pub session_there : ((i : ℕ) (x : SessionNumber) → Q i x → x.0 ≡ i) → (r : Option ℕ) → Ended r → (s : Option SessionNumber) → Made r s
+        → paper_found s ≡ f
+    session_there q None e s m = ap paper_found m ∙ sym e
+    session_there q (Some i) e None m = absurd m
+    session_there q (Some i) e (Some x) m = ap at (q i x m) ∙ sym e.1
+
+    pub session_in_turn : (b : List ℕ) → ((i : ℕ) (x : SessionNumber) → Q i x → x.0 ≡ turn (abs b) i) → (r : Option ℕ) → Ended r
+        → (s : Option SessionNumber) → Made r s → paper_found s ≡ turned (abs b) f
+    session_in_turn b q None e s m = rw e (ap paper_found m)
+    session_in_turn b q (Some i) e None m = absurd m
+    session_in_turn b q (Some i) e (Some x) m = rw e.1 (ap at (q i x m))
+
+module _ (r : Option SessionNumber) (f : Found) (p : paper_found r ≡ f) where
+  pub found_at : (s : SessionNumber) → r ≡ Some s → f ≡ at s.0
   found_at s q = sym p ∙ ap paper_found q
 
-  pub found_none : r ≡ Nothing → f ≡ none
+  pub found_none : r ≡ None → f ≡ none
   found_none q = sym p ∙ ap paper_found q

@@ -4,15 +4,16 @@ use Rattle.std.specs.Prelude.{ℕ, List}
 use Rattle.sessions.specs.Find.{Found, none, at, find}
 use Rattle.sessions.specs.Table.{State, is_open, is_waiting, is_ready, turn}
 use Rattle.table_layout.specs.Layout.{number, max_at}
-use Rattle.table_search.specs.declared.SessionFound.{SessionFound}
-use Rattle.table_search.specs.declared.SessionFound.TheVariants.{At, Nothing}
+use Rattle.std.specs.declared.option.Option.{Option}
+use Rattle.std.specs.declared.option.Option.TheVariants.{Some, None}
+use Rattle.counts.specs.declared.SessionNumber.{SessionNumber}
 use Rattle.slot.specs.Fields.{slot_of}
 use Rattle.table_sound.specs.Bytes.{abs}
 
 -- the paper's value: a session's number, or none
-abbrev pub paper_found : SessionFound → Found
-paper_found (At s) = at s.0
-paper_found Nothing = none
+abbrev pub paper_found : Option SessionNumber → Found
+paper_found (Some s) = at s.0
+paper_found None = none
 
 -- "the lowest open number"
 abbrev pub open_in : List ℕ → Found

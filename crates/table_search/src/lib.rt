@@ -11,27 +11,15 @@ use counts::{SessionNumber, Ticket};
 use slot::get_head;
 use table_layout::{Table, get_table};
 
-// What a search comes to.
-#[derive(Clone, Copy)]
-pub enum SessionFound {
-    At(SessionNumber),
-    Nothing,
-}
-
 // "takes the lowest open number"
-pub fn lowest_open(b: &[u8]) -> SessionFound
+pub fn lowest_open(b: &[u8]) -> Option<SessionNumber>
     requires { Limited b.now }
     ensures { paper_found result ≡ open_in b.now }
 {
     let max = get_table(b).max;
-    let mut s: u32 = 0;
-    while s < max {
-        if get_head(b, SessionNumber(s)).is_open() {
-            return SessionFound::At(SessionNumber(s));
-        }
-        s += 1;
-    }
-    SessionFound::Nothing
+    (0..max)
+        .find(|s| get_head(b, SessionNumber(*s)).is_open())
+        .map(SessionNumber)
 }
 
 // The number that comes i places after the one that follows the mark, going round.
@@ -47,35 +35,23 @@ fn in_turn(t: Table, i: u32) -> SessionNumber
 }
 
 // "beginning after the number last taken up and going round, the first session with an unanswered command"
-pub fn next_waiting(b: &[u8]) -> SessionFound
+pub fn next_waiting(b: &[u8]) -> Option<SessionNumber>
     requires { Limited b.now }
     ensures { paper_found result ≡ waiting_in b.now }
 {
     let t = get_table(b);
-    let max = t.max;
-    let mut i: u32 = 0;
-    while i < max {
-        let s = in_turn(t, i);
-        if get_head(b, s).is_waiting() {
-            return SessionFound::At(s);
-        }
-        i += 1;
-    }
-    SessionFound::Nothing
+    (0..t.max)
+        .find(|i| get_head(b, in_turn(t, *i)).is_waiting())
+        .map(|i| in_turn(t, i))
 }
 
 // "a closed session of that program and ticket"
-pub fn ready_session(b: &[u8], program: u32, ticket: Ticket) -> SessionFound
+pub fn ready_session(b: &[u8], program: u32, ticket: Ticket) -> Option<SessionNumber>
     requires { Limited b.now }
     ensures { paper_found result ≡ ready_found b.now program ticket.0 }
 {
     let max = get_table(b).max;
-    let mut s: u32 = 0;
-    while s < max {
-        if get_head(b, SessionNumber(s)).is_ready(program, ticket) {
-            return SessionFound::At(SessionNumber(s));
-        }
-        s += 1;
-    }
-    SessionFound::Nothing
+    (0..max)
+        .find(|s| get_head(b, SessionNumber(*s)).is_ready(program, ticket))
+        .map(SessionNumber)
 }

@@ -19,13 +19,13 @@ returns-in_default c =
 pub get_head-n-requires : goal.get_head-n-requires
 get_head-n-requires c =
     let pre = c.requires in
-    let found = found_at _ _ c.ready_session.ensures _ c.in-At.is in
+    let found = found_at _ _ c.ready_session.ensures _ c.in-Some.is in
     (sound_size _ pre.0, (ready_stands _ _ _ pre.0 pre.1 _ found).below)
 
 pub reply_length-requires : goal.reply_length-requires
 reply_length-requires c =
     let pre = c.requires in
-    let found = found_at _ _ c.ready_session.ensures _ c.in-At.is in (
+    let found = found_at _ _ c.ready_session.ensures _ c.in-Some.is in (
       sound_size _ pre.0,
       (ready_stands _ _ _ pre.0 pre.1 _ found).below,
       ready_few _ _ _ pre.0 pre.1 _ found _ c.get_head-n.ensures,
@@ -35,7 +35,7 @@ pub returns-then-out-reply_length : goal.returns-then-out-reply_length
 returns-then-out-reply_length c =
     let pre = c.requires in
     let found = found_at _ _ c.ready_session.ensures _
-    c.in-At.is in
+    c.in-Some.is in
     collect_refuses _ _ _ _ _
     (collect_8 _ _ _ _ pre.0 pre.1 _ found
     (omega (
@@ -51,7 +51,7 @@ pub write_reply-written-requires : goal.write_reply-written-requires
 write_reply-written-requires c =
     let pre = c.requires in
     let found = found_at _ _ c.ready_session.ensures _
-    c.in-At.is in
+    c.in-Some.is in
     let head = c.get_head-n.ensures in (
       sound_size _ pre.0,
       (ready_stands _ _ _ pre.0 pre.1 _ found).below,
@@ -65,14 +65,14 @@ open_number-requires c =
     let pre = c.requires in
     let found = found_at _ _
     c.ready_session.ensures _
-    c.in-At.is in
+    c.in-Some.is in
     (sound_size _ pre.0, (ready_stands _ _ _ pre.0 pre.1 _ found).below)
 
 pub returns : goal.returns
 returns c =
     let pre = c.requires in
     let found = found_at _ _
-    c.ready_session.ensures _ c.in-At.is in
+    c.ready_session.ensures _ c.in-Some.is in
     let reply = ready_reply _ _ _ pre.0 pre.1 _ found _
     c.get_head-n.ensures in
     collects_is _ _ _ _ (collectable_at _ _ _ _ pre.0 pre.1 _ found

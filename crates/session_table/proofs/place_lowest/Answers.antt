@@ -26,7 +26,7 @@ returns-then-last-ge-TICKET_MOST c =
     let spent = place_12 _ _ _ c.requires.0
     c.requires.1 _
     (found_at _ _ c.lowest_open.ensures _
-    c.in-At.is)
+    c.in-Some.is)
     (omega (arith, c.if-last-ge-TICKET_MOST.true, ap (λ x. x.last.0) c.get_table.ensures)) in
     place_refuses _ _ _ _ spent _ c.plain-then-last-ge-TICKET_MOST.ensures (λ z. omega arith)
 
@@ -36,7 +36,7 @@ put_head-requires c = (
   place_below _
       c.requires.0 _
       (found_at _ _ c.lowest_open.ensures _
-      c.in-At.is),
+      c.in-Some.is),
 )
 
 pub put_last-requires : goal.put_last-requires
@@ -51,7 +51,7 @@ returns c =
     let found =
     found_at _ _
     c.lowest_open.ensures _
-    c.in-At.is in
+    c.in-Some.is in
     let last = ap (λ x. x.last.0)
     c.get_table.ensures in
     let room = c.if-last-ge-TICKET_MOST.false in (

@@ -18,5 +18,5 @@ pub take_up_at-requires : goal.take_up_at-requires
 take_up_at-requires c =
     let (ok, waits, gives) =
     take_up_0 _ c.requires.0 c.requires.1 _
-    (found_at _ _ c.next_waiting.ensures _ c.in-At.is) in
+    (found_at _ _ c.next_waiting.ensures _ c.in-Some.is) in
     (ok, c.requires.1, waits, gives)

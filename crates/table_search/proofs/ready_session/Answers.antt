@@ -1,30 +1,26 @@
-use mathlib.Core.Path.{ap, sym}
-use native.Mathlib.Omega.{arith}
-use Rattle.sessions.proofs.Loops.{find_none, find_more, find_hit, find_end}
-use Rattle.slot.proofs.Told.{asked}
-use Rattle.table_layout.specs.Layout.{table_of}
+use Rattle.std.proofs.Common.{◌≡◌, ◌<◌, ◌≤◌, ap, true, false, arith, rules, tests}
+use Rattle.std.proofs.lemmas.Iterator.{first_from_Range, serves_from_Range}
+use Rattle.counts.specs.Limits.{sessions}
 use Rattle.sessions.specs.Table.{is_ready}
+use Rattle.slot.proofs.Told.{slot_told}
+use Rattle.slot.specs.Fields.{slot_of}
+use Rattle.table_layout.specs.Layout.{table_of}
+use Rattle.table_search.proofs.Tests.{first_is, session_there}
 use Rattle.table_search.proofs.ready_session.Goals as goal
 
-pub loop-s-init : goal.loop-s-init
+pub find-requires-clause-callable : goal.find-requires-clause-callable
 unfolding table_of
-loop-s-init c = (omega arith, ap (λ x. x.max) c.get_table-max.ensures, find_none _)
-
-pub returns-then-is_ready : goal.returns-then-is_ready
-returns-then-is_ready c =
-    sym (find_hit _ _ c.loop-s.invariant.2
-    (asked _ _ _ c.get_head.ensures (omega (arith, c.requires.limit)) (is_ready _ _)
-    c.is_ready.ensures c.if-is_ready.true)
-    (omega arith))
-
-pub loop-s-preserved : goal.loop-s-preserved
-loop-s-preserved c = (
-  omega arith,
-  c.loop-s.invariant.1,
-  find_more _ c.loop-s.invariant.2
-      (asked _ _ _ c.get_head.ensures (omega (arith, c.requires.limit)) (is_ready _ _)
-      c.is_ready.ensures c.if-is_ready.false),
-)
+find-requires-clause-callable c =
+    let few : c.get_table-max.result.max ≤ sessions = omega (arith, ap (λ x. x.max) c.get_table-max.ensures, c.requires.limit) in
+    serves_from_Range (λ x q k. search (rules, tests)) (λ x low high. search rules)
 
 pub returns : goal.returns
-returns c = sym (find_end _ c.loop-s.invariant.2 (omega arith))
+unfolding table_of
+returns c =
+    let b = c.args.b.now in
+    let ends =
+    first_from_Range _ _ _ c.find.result (λ i. i < sessions → is_ready c.args.program c.args.ticket.0 (slot_of b i) ≡ true) (λ i. i < sessions → is_ready c.args.program c.args.ticket.0 (slot_of b i) ≡ false)
+    c.find.ensures.ran
+    (λ x q k l. grind (arith, tests, slot_told))
+    (λ x q k. (search rules, λ l. grind (arith, tests, slot_told))) in
+    session_there _ _ _ (λ i x q. search rules) _ (first_is _ _ _ (ap (λ x. x.max) c.get_table-max.ensures) c.requires.limit _ ends) _ c.map.ensures.cases
