@@ -1,25 +1,20 @@
 -- Demand 1 for the calls of the session table: a refused call leaves every byte as it was, and two results that meet a call's contract are equal, answer and
 -- bytes.
 use Prim.Native.Nat.{ℕ}
-use mathlib.Core.Path.{◌≡◌, refl, sym, ap, ap₂, ◌∙◌}
+use mathlib.Core.Path.{◌≡◌, refl, sym, ◌∙◌}
 use mathlib.Core.List.{List}
 use lib.ListN.{length}
 use Rattle.counts.specs.Result.{Result, refused}
-use Rattle.counts.proofs.Results.{refused_not_done, same_refusal}
+use Rattle.counts.proofs.Results.{paper_says_all}
 use Rattle.sessions.specs.declared.Answer.{Answer}
 use Rattle.session_table.specs.Calls.{after, making, made_bytes, placing, placed_bytes, taking_up, taken_bytes, answering, answered_bytes, collecting, collected_bytes, collected_out}
 use Rattle.session_table.specs.Collect.{Collects}
 use Rattle.session_table.specs.Paper.{paper_made, paper_placed, paper_taken_up, paper_answered, paper_collected}
-use Rattle.session_table.specs.declared.Made.{Made}
-use Rattle.session_table.specs.declared.Made.TheVariants.{Fresh, Refused as NotMade}
-use Rattle.session_table.specs.declared.SessionPlaced.{SessionPlaced}
-use Rattle.session_table.specs.declared.SessionPlaced.TheVariants.{At, Refused as NotPlaced}
-use Rattle.session_table.specs.declared.TakenUp.{TakenUp}
-use Rattle.session_table.specs.declared.TakenUp.TheVariants.{Given, Refused as NotTakenUp}
-use Rattle.session_table.specs.declared.Answered.{Answered}
-use Rattle.session_table.specs.declared.Answered.TheVariants.{Accepted, Refused as NotAnswered}
-use Rattle.session_table.specs.declared.Collected.{Collected}
-use Rattle.session_table.specs.declared.Collected.TheVariants.{Written, Refused as NotCollected}
+use Rattle.std.specs.declared.result.Result.{Result as Returned}
+use Rattle.counts.specs.declared.CommandNumber.{CommandNumber}
+use Rattle.counts.specs.declared.Refusal.{Refusal}
+use Rattle.counts.specs.declared.SessionNumber.{SessionNumber}
+use Rattle.counts.specs.declared.Ticket.{Ticket}
 use Rattle.claims.specs.Exactly.{OneResult}
 use Rattle.claims.proofs.Demand1.{one_result}
 
@@ -51,44 +46,22 @@ collect_refused_keeps b p t out number place e = (rw e, rw e)
 
 -- ---- the paper's value of an answer loses nothing, so two results that meet a contract are equal
 
-made_all : (a b : Made) → paper_made a ≡ paper_made b → a ≡ b
-unfolding paper_made
-made_all Fresh Fresh h = refl
-made_all Fresh (NotMade r) h = absurd (refused_not_done (sym h))
-made_all (NotMade r) Fresh h = absurd (refused_not_done h)
-made_all (NotMade r) (NotMade t) h = ap NotMade (same_refusal (cc) (cc))
+made_all : (a b : Returned (Unit {0}) Refusal) → paper_made a ≡ paper_made b → a ≡ b
+made_all = paper_says_all (λ made. made) (λ x y h. h)
 
-placed_all : (a b : SessionPlaced) → paper_placed a ≡ paper_placed b → a ≡ b
-unfolding paper_placed
-placed_all (At s t) (At s' t') h =
-    let p : ◌≡◌ {A = ℕ × ℕ} (s.0, t.0) (s'.0, t'.0) = cc in
-    ap₂ At (λ i. record { 0 = (p i).0 }) (λ i. record { 0 = (p i).1 })
-placed_all (At s t) (NotPlaced r) h = absurd (refused_not_done (sym h))
-placed_all (NotPlaced r) (At s t) h = absurd (refused_not_done h)
-placed_all (NotPlaced r) (NotPlaced t) h = ap NotPlaced (same_refusal (cc) (cc))
+placed_all : (a b : Returned (SessionNumber × Ticket) Refusal) → paper_placed a ≡ paper_placed b → a ≡ b
+placed_all = paper_says_all (λ placed. (placed.0.0, placed.1.0)) (λ x y h i. (record { 0 = (h i).0 }, record { 0 = (h i).1 }))
 
-taken_up_all : (a b : TakenUp) → paper_taken_up a ≡ paper_taken_up b → a ≡ b
-unfolding paper_taken_up
-taken_up_all (Given s t c) (Given s' t' c') h =
-    let p : ◌≡◌ {A = ℕ × ℕ × ℕ} (s.0, t.0, c.0) (s'.0, t'.0, c'.0) = cc in
-    λ i. Given (record { 0 = (p i).0 }) (record { 0 = (p i).1 }) (record { 0 = (p i).2 })
-taken_up_all (Given s t c) (NotTakenUp r) h = absurd (refused_not_done (sym h))
-taken_up_all (NotTakenUp r) (Given s t c) h = absurd (refused_not_done h)
-taken_up_all (NotTakenUp r) (NotTakenUp t) h = ap NotTakenUp (same_refusal (cc) (cc))
+taken_up_all : (a b : Returned (SessionNumber × Ticket × CommandNumber) Refusal) → paper_taken_up a ≡ paper_taken_up b → a ≡ b
+taken_up_all =
+    paper_says_all (λ given. (given.0.0, given.1.0, given.2.0))
+    (λ x y h i. (record { 0 = (h i).0 }, record { 0 = (h i).1 }, record { 0 = (h i).2 }))
 
-answered_all : (a b : Answered) → paper_answered a ≡ paper_answered b → a ≡ b
-unfolding paper_answered
-answered_all Accepted Accepted h = refl
-answered_all Accepted (NotAnswered r) h = absurd (refused_not_done (sym h))
-answered_all (NotAnswered r) Accepted h = absurd (refused_not_done h)
-answered_all (NotAnswered r) (NotAnswered t) h = ap NotAnswered (same_refusal (cc) (cc))
+answered_all : (a b : Returned (Unit {0}) Refusal) → paper_answered a ≡ paper_answered b → a ≡ b
+answered_all = paper_says_all (λ accepted. accepted) (λ x y h. h)
 
-collected_all : (a b : Collected) → paper_collected a ≡ paper_collected b → a ≡ b
-unfolding paper_collected
-collected_all (Written n) (Written m) h = ap Written (cc)
-collected_all (Written n) (NotCollected r) h = absurd (refused_not_done (sym h))
-collected_all (NotCollected r) (Written n) h = absurd (refused_not_done h)
-collected_all (NotCollected r) (NotCollected t) h = ap NotCollected (same_refusal (cc) (cc))
+collected_all : (a b : Returned ℕ Refusal) → paper_collected a ≡ paper_collected b → a ≡ b
+collected_all = paper_says_all (λ written. written) (λ x y h. h)
 
 pub make_determined : OneResult (List ℕ) paper_made
 make_determined = one_result made_all
@@ -103,7 +76,7 @@ pub answer_determined : OneResult (List ℕ) paper_answered
 answer_determined = one_result answered_all
 
 -- collect is lent two memories, and its contract says both
-pub collect_determined : (b : List ℕ) (p t : ℕ) (out : List ℕ) (r r' : Collected) (exit exit' out_exit out_exit' : List ℕ)
+pub collect_determined : (b : List ℕ) (p t : ℕ) (out : List ℕ) (r r' : Returned ℕ Refusal) (exit exit' out_exit out_exit' : List ℕ)
     → Collects b p t out r exit out_exit → Collects b p t out r' exit' out_exit' → (r ≡ r') × (exit ≡ exit') × (out_exit ≡ out_exit')
 collect_determined b p t out r r' exit exit' out_exit out_exit' x y =
     (collected_all r r' (x.answer ∙ sym y.answer), x.table ∙ sym y.table, x.output ∙ sym y.output)

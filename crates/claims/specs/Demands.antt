@@ -5,7 +5,9 @@ use Rattle.std.specs.Prelude.{ℕ, zero, suc, ◌+◌, ◌-◌, ◌*◌, ◌^◌
 use mathlib.Core.List.{List, [], ◌∷◌, ◌++◌, Memᴰ}
 use Rattle.counts.specs.Limits.{file_bytes, statements, commands, older_commands, sessions}
 use Rattle.counts.specs.Refusals.{file_too_long, too_few_places, no_token, unexpected, not_real, too_many_statements, not_a_record, too_little_room, out_of_range, unsound, open_string, broken_string, misshapen, end_of_file}
+use Rattle.std.specs.declared.result.Result.{Result as Returned}
 use Rattle.counts.specs.Result.{Result, refused, done, counted}
+use Rattle.counts.specs.declared.Refusal.{Refusal}
 use Rattle.field.specs.Bytes.{ascii}
 use Rattle.field.specs.Part.{part, put}
 use Rattle.calendar.specs.Calendar.{real_date, real_time}
@@ -68,7 +70,6 @@ use Rattle.table_sound.specs.Bytes.{abs, sound_bytes}
 use Rattle.session_table.specs.Calls.{Beyond, making, made_bytes, placing, placed_bytes, taking_up, taken_bytes, answering, answered_bytes, in_hand, collecting, collected_bytes, collected_out}
 use Rattle.session_table.specs.Collect.{Collects}
 use Rattle.session_table.specs.Paper.{paper_made, paper_placed, paper_taken_up, paper_answered}
-use Rattle.session_table.specs.declared.Collected.{Collected}
 use Rattle.session_histories.specs.Steps.{Step, step_bytes, bytes_after}
 use Rattle.claims.specs.Exactly.{Exactly, Obeys, OneResult}
 use Rattle.claims.specs.Fits.{FitsWithin, FitsUpTo, Fits}
@@ -132,7 +133,7 @@ pub record Demand1 : Type 0 where
   pub one_placed : OneResult (List ℕ) paper_placed
   pub one_taken_up : OneResult (List ℕ) paper_taken_up
   pub one_answered : OneResult (List ℕ) paper_answered
-  pub one_collected : (b : List ℕ) (p t : ℕ) (out : List ℕ) (r r' : Collected) (exit exit' out_exit out_exit' : List ℕ)
+  pub one_collected : (b : List ℕ) (p t : ℕ) (out : List ℕ) (r r' : Returned ℕ Refusal) (exit exit' out_exit out_exit' : List ℕ)
       → Collects b p t out r exit out_exit → Collects b p t out r' exit' out_exit' → (r ≡ r') × (exit ≡ exit') × (out_exit ≡ out_exit')
   -- "a table's size (one size for every MaxSessions, at most 1,048,576 bytes)"
   pub table_size : table_bytes ≤ 1048576

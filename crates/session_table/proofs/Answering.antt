@@ -8,7 +8,7 @@ use borrow.Author.Tests.{leb-true}
 use lib.Dec.{leb}
 use Rattle.counts.proofs.Results.{refused_not_done}
 use Rattle.counts.specs.Limits.{class_most, code_most}
-use Rattle.counts.specs.Refusals.{not_real, not_a_record, not_the_one, unsound, refusal}
+use Rattle.counts.specs.Refusals.{not_real, not_a_record, not_the_one, unsound}
 use Rattle.counts.specs.Result.{refused, done}
 use Rattle.counts.specs.declared.Refusal.{Refusal}
 use Rattle.laws.proofs.Choose.{and_left}
@@ -29,8 +29,8 @@ use Rattle.table_sound.proofs.Slots.{hand_empty, hand_full}
 use Rattle.table_sound.specs.Bytes.{hand_of, abs, sound_bytes}
 use Rattle.session_table.specs.Calls.{only, verdict, names_hand, answering, answered_as, answered_bytes}
 use Rattle.session_table.specs.Paper.{paper_answered}
-use Rattle.session_table.specs.declared.Answered.TheVariants.{Refused as NotAnswered}
-use Rattle.session_table.proofs.Verdicts.{passed, passed_both, is_done, is_refused, keeps_bytes}
+use Rattle.std.specs.declared.result.Result.{Result as Returned}
+use Rattle.session_table.proofs.Verdicts.{passed, passed_both, is_refused, keeps_bytes}
 
 -- an outcome in range is stored in a number
 pub kind_fits : (o : Outcome) → is_outcome o ≡ true → kind_of o ≤ 4294967295
@@ -99,13 +99,10 @@ module _ (b : List ℕ) (t c : ℕ) (a : Answer) where
 
   -- the two halves together: no refusal, or the one that was found and no byte changed
   module _ (no : ℕ) (said : verdict no ≡ only (answering b t c a)) where
-    pub answer_passes : no ≡ 0 → only (answering b t c a) ≡ done tt
-    answer_passes = is_done (answering b t c a) no said
-
-    pub answer_refuses : (f : Refusal) → f ≡ refusal no 0 → (no ≡ 0 → ⊥) → (paper_answered (NotAnswered f) ≡ answering b t c a) × (b ≡ answered_bytes b t c a)
-    unfolding paper_answered answered_bytes
-    answer_refuses f q d =
-        (ap (λ x. paper_answered (NotAnswered x)) q ∙ sym (is_refused (answering b t c a) no said d), keeps_bytes (answering b t c a) no said b _ d)
+    pub answer_refuses : (r : Returned (Unit {0}) Refusal) → paper_answered r ≡ refused no 0 → (no ≡ 0 → ⊥)
+        → (paper_answered r ≡ answering b t c a) × (b ≡ answered_bytes b t c a)
+    unfolding answered_bytes
+    answer_refuses r e d = (e ∙ sym (is_refused (answering b t c a) no said d), keeps_bytes (answering b t c a) no said b _ d)
 
   -- what is known where there is no refusal
   pub record Answerable : Type 0 where

@@ -9,7 +9,7 @@ use lib.ListN.{length}
 use borrow.Author.Tests.{le-leb, lt-leb, leb-true}
 use Rattle.counts.proofs.Results.{refused_not_done}
 use Rattle.counts.specs.Limits.{commands, programs}
-use Rattle.counts.specs.Refusals.{not_the_one, out_of_range, too_little_room, unsound, refusal}
+use Rattle.counts.specs.Refusals.{not_the_one, out_of_range, too_little_room, unsound}
 use Rattle.counts.specs.Result.{refused, done}
 use Rattle.counts.specs.declared.Refusal.{Refusal}
 use Rattle.field.specs.Part.{put, Wrote}
@@ -29,8 +29,8 @@ use Rattle.table_sound.specs.Bytes.{abs, sound_bytes}
 use Rattle.session_table.specs.Calls.{only, verdict, collecting, ready_in, collected_at, collected_bytes, collected_out}
 use Rattle.session_table.specs.Collect.{Collects}
 use Rattle.session_table.specs.Paper.{paper_collected}
-use Rattle.session_table.specs.declared.Collected.{Collected}
-use Rattle.session_table.specs.declared.Collected.TheVariants.{Written, Refused as NotCollected}
+use Rattle.std.specs.declared.result.Result.{Result as Returned}
+use Rattle.std.specs.declared.result.Result.TheVariants.{Ok}
 use Rattle.session_table.proofs.Verdicts.{passed, passed_both, is_refused, keeps_bytes}
 
 module _ (b : List ℕ) (p t room : ℕ) where
@@ -58,8 +58,9 @@ module _ (b : List ℕ) (p t room : ℕ) where
 
   -- the refusal that was found, and no byte changed
   module _ (no : ℕ) (said : verdict no ≡ only (collecting b p t room)) where
-    pub collect_refuses : (out : List ℕ) (f : Refusal) → room ≡ length out → f ≡ refusal no 0 → (no ≡ 0 → ⊥) → Collects b p t out (NotCollected f) b out
-    unfolding paper_collected collected_bytes collected_out
+    pub collect_refuses : (out : List ℕ) (f : Returned ℕ Refusal) → room ≡ length out → paper_collected f ≡ refused no 0 → (no ≡ 0 → ⊥)
+        → Collects b p t out f b out
+    unfolding collected_bytes collected_out
     collect_refuses out f q r d =
         let e = is_refused (collecting b p t room) no said d in
         record {
@@ -143,8 +144,8 @@ module _ (b : List ℕ) (p t : ℕ) (sound : sound_bytes b ≡ true) (range : wi
 
 -- what was written, and the number open again, are what collecting leaves
 pub collects_is : (b : List ℕ) (p t : ℕ) (out : List ℕ) (w : Collectable b p t (length out)) (s : ℕ) → s ≡ ready_in b p t → (bs f e : List ℕ) {n : ℕ}
-    → bs ≡ reply (slot_of b s) → Wrote out 0 bs f n → e ≡ collected_at b s → Collects b p t out (Written n) e f
-unfolding paper_collected collected_out
+    → bs ≡ reply (slot_of b s) → Wrote out 0 bs f n → e ≡ collected_at b s → Collects b p t out (Ok n) e f
+unfolding collected_out
 collects_is b p t out w s found bs f e q v r =
     let d = collect_done b p t (length out) w s found in
     record {
@@ -154,7 +155,7 @@ collects_is b p t out w s found bs f e q v r =
     }
 
 -- what a call that collects says and leaves: the reply of that program and ticket, or the refusal and no byte changed
-module _ {b : List ℕ} {p t : ℕ} {out : List ℕ} {r : Collected} {b' out' : List ℕ} (c : Collects b p t out r b' out') where
+module _ {b : List ℕ} {p t : ℕ} {out : List ℕ} {r : Returned ℕ Refusal} {b' out' : List ℕ} (c : Collects b p t out r b' out') where
   pub collected_is_given : (bs : List ℕ) → collecting b p t (length out) ≡ done bs
       → (paper_collected r ≡ done (length bs)) × (b' ≡ collected_at b (ready_in b p t)) × (out' ≡ put out 0 bs)
   unfolding collected_bytes collected_out

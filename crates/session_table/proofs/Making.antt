@@ -1,6 +1,6 @@
 -- Making: the ways through its tests, and what it leaves.
 use Prim.Native.Nat.{ℕ, ◌≤◌}
-use mathlib.Core.Path.{◌≡◌, refl, ◌∙◌}
+use mathlib.Core.Path.{◌≡◌, ◌∙◌, sym}
 use mathlib.Core.Bool.{true, false}
 use mathlib.Core.List.{List}
 use lib.Dec.{eqb}
@@ -13,24 +13,10 @@ use Rattle.sessions.proofs.Laws.{in_range_lem}
 use Rattle.sessions.specs.Table.{within}
 use Rattle.table_layout.specs.Layout.{table_bytes, put_table, fresh_table}
 use Rattle.session_table.specs.Calls.{only, verdict, making, fresh_bytes, made_bytes}
-use Rattle.session_table.proofs.Verdicts.{passed, is_done, keeps_bytes}
+use Rattle.session_table.proofs.Verdicts.{passed, is_refused, keeps_bytes}
 use Rattle.counts.specs.declared.Refusal.{Refusal}
 use Rattle.session_table.specs.Paper.{paper_made}
-use Rattle.session_table.specs.declared.Made.{Made}
-use Rattle.session_table.specs.declared.Made.TheVariants.{Fresh, Refused as NotMade}
-
-only_unit : (x : Result (Unit {0})) → only x ≡ x
-only_unit (refused number place) = refl
-only_unit (done x) = refl
-
--- the answer, by the number that was found
-pub says_fresh : (number : ℕ) → number ≡ 0 → paper_made Fresh ≡ verdict number
-unfolding paper_made
-says_fresh number e = rw e
-
-pub says_refused : (number : ℕ) → (number ≡ 0 → ⊥) → (f : Refusal) → f ≡ refusal number 0 → paper_made (NotMade f) ≡ verdict number
-unfolding paper_made
-says_refused number n f q = rw (q, ne_eqb number 0 n)
+use Rattle.std.specs.declared.result.Result.{Result as Returned}
 
 module _ (b : List ℕ) (max : ℕ) where
   pub make_11 : within 1 max sessions ≡ false → verdict out_of_range ≡ only (making b max)
@@ -47,15 +33,9 @@ module _ (b : List ℕ) (max : ℕ) where
 
   -- the two halves together: no refusal, or the one that was found and no byte changed
   module _ (no : ℕ) (said : verdict no ≡ only (making b max)) where
-    pub make_passes : no ≡ 0 → only (making b max) ≡ done tt
-    make_passes = is_done (making b max) no said
-
-    pub make_keeps : (no ≡ 0 → ⊥) → b ≡ made_bytes b max
+    pub make_refuses : (r : Returned (Unit {0}) Refusal) → paper_made r ≡ refused no 0 → (no ≡ 0 → ⊥) → (paper_made r ≡ making b max) × (b ≡ made_bytes b max)
     unfolding made_bytes
-    make_keeps d = keeps_bytes (making b max) no said b _ d
-
-    pub make_says : (r : Made) → paper_made r ≡ verdict no → paper_made r ≡ making b max
-    make_says r e = e ∙ said ∙ only_unit (making b max)
+    make_refuses r e d = (e ∙ sym (is_refused (making b max) no said d), keeps_bytes (making b max) no said b _ d)
 
   module _ (ok : only (making b max) ≡ done tt) where
     tests : (within 1 max sessions ≡ true) × (eqb (length b) table_bytes ≡ true)

@@ -8,8 +8,8 @@ use lib.Dec.{ltb}
 use borrow.Author.Tests.{lt-ltb, le-ltb, ltb-true}
 use Rattle.counts.proofs.Results.{refused_not_done}
 use Rattle.counts.specs.Limits.{commands, programs, sessions, ticket_most}
-use Rattle.counts.specs.Refusals.{all_taken, out_of_range, no_ticket_left, unsound, refusal}
-use Rattle.counts.specs.Result.{done}
+use Rattle.counts.specs.Refusals.{all_taken, out_of_range, no_ticket_left, unsound}
+use Rattle.counts.specs.Result.{refused, done}
 use Rattle.sessions.proofs.Laws.{must_find}
 use Rattle.sessions.proofs.Loops.{find_at}
 use Rattle.sessions.specs.Find.{none, at, or_none}
@@ -25,7 +25,9 @@ pub use Rattle.table_search.specs.Search.{open_in}
 use Rattle.session_table.proofs.Verdicts.{passed, passed_both, is_refused, keeps_bytes}
 use Rattle.counts.specs.declared.Refusal.{Refusal}
 use Rattle.session_table.specs.Paper.{paper_placed}
-use Rattle.session_table.specs.declared.SessionPlaced.TheVariants.{Refused as NotPlaced}
+use Rattle.counts.specs.declared.SessionNumber.{SessionNumber}
+use Rattle.counts.specs.declared.Ticket.{Ticket}
+use Rattle.std.specs.declared.result.Result.{Result as Returned}
 
 pub place_below : (b : List ℕ) → sound_bytes b ≡ true → (s : ℕ) → open_in b ≡ at s → s < sessions
 place_below b sound s e = omega (arith, (find_at (λ i. is_open (slot_of b i)) (number b max_at) e).0, (sound_limited b sound).limit)
@@ -57,10 +59,10 @@ module _ (b : List ℕ) (p n : ℕ) where
 
   -- the refusal that was found, and no byte changed
   module _ (no : ℕ) (said : verdict no ≡ only (placing b p n)) where
-    pub place_refuses : (f : Refusal) → f ≡ refusal no 0 → (no ≡ 0 → ⊥) → (paper_placed (NotPlaced f) ≡ placing b p n) × (b ≡ placed_bytes b p n)
-    unfolding paper_placed placed_bytes
-    place_refuses f q d =
-        (ap (λ x. paper_placed (NotPlaced x)) q ∙ sym (is_refused (placing b p n) no said d), keeps_bytes (placing b p n) no said b _ d)
+    pub place_refuses : (r : Returned (SessionNumber × Ticket) Refusal) → paper_placed r ≡ refused no 0 → (no ≡ 0 → ⊥)
+        → (paper_placed r ≡ placing b p n) × (b ≡ placed_bytes b p n)
+    unfolding placed_bytes
+    place_refuses r e d = (e ∙ sym (is_refused (placing b p n) no said d), keeps_bytes (placing b p n) no said b _ d)
 
   -- what is known where there is no refusal
   pub record Placeable : Type 0 where

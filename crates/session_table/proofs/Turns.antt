@@ -5,8 +5,8 @@ use mathlib.Core.Bool.{true, false}
 use mathlib.Core.List.{List}
 use borrow.Author.Tests.{eq-eqb, ne_eqb}
 use Rattle.counts.proofs.Results.{refused_not_done}
-use Rattle.counts.specs.Refusals.{nothing_unanswered, unsound, refusal}
-use Rattle.counts.specs.Result.{done}
+use Rattle.counts.specs.Refusals.{nothing_unanswered, unsound}
+use Rattle.counts.specs.Result.{refused, done}
 use Rattle.counts.specs.declared.Refusal.{Refusal}
 use Rattle.sessions.proofs.Loops.{find_at}
 use Rattle.sessions.specs.Find.{Found, none, at, or_none}
@@ -20,7 +20,10 @@ use Rattle.table_sound.proofs.Slots.{hand_empty, hand_full}
 use Rattle.table_sound.specs.Bytes.{hand_of, abs, sound_bytes}
 use Rattle.session_table.specs.Calls.{only, verdict, taking_up, taken_bytes}
 use Rattle.session_table.specs.Paper.{paper_taken_up}
-use Rattle.session_table.specs.declared.TakenUp.TheVariants.{Refused as NotTakenUp}
+use Rattle.counts.specs.declared.CommandNumber.{CommandNumber}
+use Rattle.counts.specs.declared.SessionNumber.{SessionNumber}
+use Rattle.counts.specs.declared.Ticket.{Ticket}
+use Rattle.std.specs.declared.result.Result.{Result as Returned}
 pub use Rattle.table_search.specs.Search.{next_in}
 use Rattle.table_search.specs.Search.{turned, waiting_in}
 use Rattle.session_table.proofs.Searches.{none≢at}
@@ -84,10 +87,10 @@ module _ (b : List ℕ) where
     pub take_up_passes : no ≡ 0 → only (taking_up b) ≡ done tt
     take_up_passes = is_done (taking_up b) no said
 
-    pub take_up_refuses : (f : Refusal) → f ≡ refusal no 0 → (no ≡ 0 → ⊥) → (paper_taken_up (NotTakenUp f) ≡ taking_up b) × (b ≡ taken_bytes b)
-    unfolding paper_taken_up taken_bytes
-    take_up_refuses f q d =
-        (ap (λ x. paper_taken_up (NotTakenUp x)) q ∙ sym (is_refused (taking_up b) no said d), keeps_bytes (taking_up b) no said b _ d)
+    pub take_up_refuses : (r : Returned (SessionNumber × Ticket × CommandNumber) Refusal) → paper_taken_up r ≡ refused no 0 → (no ≡ 0 → ⊥)
+        → (paper_taken_up r ≡ taking_up b) × (b ≡ taken_bytes b)
+    unfolding taken_bytes
+    take_up_refuses r e d = (e ∙ sym (is_refused (taking_up b) no said d), keeps_bytes (taking_up b) no said b _ d)
 
   module _ (ok : only (taking_up b) ≡ done tt) where
     pub take_up_sound : sound_bytes b ≡ true

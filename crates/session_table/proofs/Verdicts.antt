@@ -1,11 +1,20 @@
 -- A call is a verdict and then an effect: what its two halves say together.
 use Prim.Native.Nat.{ℕ}
-use mathlib.Core.Path.{◌≡◌, refl, ◌∙◌, sym}
+use mathlib.Core.Path.{◌≡◌, refl, ◌∙◌, ap, sym}
 use mathlib.Core.Bool.{Bool, true, false, cond}
 use mathlib.Core.List.{List}
 use borrow.Author.Tests.{ne_eqb}
-use Rattle.counts.proofs.Results.{refused_not_done}
-use Rattle.counts.specs.Result.{Result, refused, done}
+use Rattle.counts.proofs.Results.{refused_not_done, refused_plainly}
+use Rattle.counts.specs.Result.{Result, refused, done, refused_as, paper}
+use Rattle.counts.specs.Refusals.{number_of, refusal}
+use Rattle.counts.specs.declared.Reason.{Reason}
+use Rattle.counts.specs.declared.Refusal.{Refusal}
+use Rattle.std.specs.Option.{ok_or}
+use Rattle.std.specs.Prelude.{IsErr, IsErrAnd}
+use Rattle.std.specs.declared.option.Option.{Option}
+use Rattle.std.specs.declared.option.Option.TheVariants.{None}
+use Rattle.std.specs.declared.result.Result.{Result as Returned}
+use Rattle.std.specs.declared.result.Result.TheVariants.{Err}
 use Rattle.sessions.specs.Table.{State}
 use Rattle.session_table.specs.Calls.{after, only, verdict}
 
@@ -35,3 +44,17 @@ module _ {A : Type 0} where
       → (t ≡ true) × (only x.0 ≡ done tt)
   passed_both true x k i σ e = (refl, e)
   passed_both false x k i σ e = absurd (refused_not_done e)
+
+-- ---- a refusal of a reason alone
+
+pub plainly : {A : Type 0} {f : Refusal} {reason : Reason} → f ≡ refusal reason 0 → refused_as {A = A} f ≡ refused (number_of reason) 0
+plainly e = ap refused_as e
+
+-- where there was nothing to go on with
+pub none_left : {T X A : Type 0} (values : T → A) (r : Returned T Refusal) (o : Option X) {e : Reason} (reason : Reason)
+    → IsErr r × IsErrAnd r (λ f. f ≡ refusal e 0) → o ≡ None → ◌≡◌ {A = Returned X Reason} (Err e) (ok_or o reason)
+    → paper values r ≡ refused (number_of reason) 0
+none_left {X = X} values r o {e = e} reason h n v =
+    let w : ◌≡◌ {A = Returned X Reason} (Err e) (Err reason) = v ∙ ap (λ o. ok_or o reason) n in
+    let q : e ≡ reason = cc in
+    refused_plainly values r e h ∙ ap (λ x. refused (number_of x) 0) q

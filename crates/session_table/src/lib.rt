@@ -1,11 +1,10 @@
-// The session table: make, place, take up, answer, collect. Making and answering are each a thin function over one that gives the number of the
-// refusal, in document 01's order and 0 for none, and one that does what the call does where there is none. The others are one way through, so
-// that they search the sessions once.
+// The session table: make, place, take up, answer, collect. Making and answering each ask first whether they may, in document 01's order, and
+// then do what the call does. The others are one way through, so that they search the sessions once.
 #![tactic(auto)]
 
 ghost use Rattle.std.specs.Prelude.{◌≡◌, ◌&&◌, true, ◌+◌, ◌<◌};
-ghost use Rattle.counts.specs.Limits.{commands, programs};
-ghost use Rattle.counts.specs.Result.{done};
+ghost use Rattle.counts.specs.Limits.{commands, programs, sessions};
+ghost use Rattle.counts.specs.Result.{done, refused_by};
 ghost use Rattle.sessions.specs.Table.{within, is_waiting, given_from};
 ghost use Rattle.slot.specs.Fields.{slot_of};
 ghost use Rattle.table_layout.specs.Layout.{number, hand_at};
@@ -14,10 +13,7 @@ ghost use Rattle.session_table.specs.Paper.{paper_made, paper_placed, paper_take
 ghost use Rattle.session_table.specs.Calls.{names_hand, verdict, only, making, made_bytes, placing, placed_bytes, taking_up, taken_bytes, answering, answered_bytes};
 ghost use Rattle.session_table.specs.Collect.{Collects};
 
-use counts::{
-    ALL_TAKEN, CommandNumber, NO_TICKET_LEFT, NOT_A_RECORD, NOT_REAL, NOT_THE_ONE,
-    NOTHING_UNANSWERED, OUT_OF_RANGE, Refusal, SessionNumber, TOO_LITTLE_ROOM, Ticket, UNSOUND,
-};
+use counts::{CommandNumber, Reason, Refusal, SessionNumber, Ticket};
 use record::Outcome;
 use sessions::Answer;
 use slot::{Head, answer_slot, get_head, open_number, put_head};
@@ -26,127 +22,91 @@ use table_reply::{reply_length, write_reply};
 use table_search::{lowest_open, next_waiting, ready_session};
 use table_sound::is_sound;
 
-#[derive(Clone, Copy)]
-pub enum Made {
-    Fresh,
-    Refused(Refusal),
-}
-
-#[derive(Clone, Copy)]
-pub enum SessionPlaced {
-    At(SessionNumber, Ticket),
-    Refused(Refusal),
-}
-
-#[derive(Clone, Copy)]
-pub enum TakenUp {
-    Given(SessionNumber, Ticket, CommandNumber),
-    Refused(Refusal),
-}
-
-#[derive(Clone, Copy)]
-pub enum Answered {
-    Accepted,
-    Refused(Refusal),
-}
-
-#[derive(Clone, Copy)]
-pub enum Collected {
-    Written(usize),
-    Refused(Refusal),
-}
-
-fn make_refusal(b: &[u8], max: u32) -> u32
-    ensures { verdict result ≡ only (making b.now max) }
+fn is_max(max: u32) -> bool
+    ensures { result ≡ within 1 max sessions }
 {
-    if (1 <= max) & (max <= Table::SESSIONS) {
-        if b.len() == Table::SIZE { 0 } else { UNSOUND }
-    } else {
-        OUT_OF_RANGE
-    }
+    (1 <= max) & (max <= Table::SESSIONS)
 }
 
-// Where no refusal was found, a fresh table.
-fn make_now(b: &mut [u8], max: u32, found: u32)
-    requires { verdict found ≡ only (making b.old max) }
-    ensures { b.new ≡ made_bytes b.old max }
+fn is_program(program: u32) -> bool
+    ensures { result ≡ within 1 program programs }
 {
-    if found == 0 {
-        Table::clear(b);
-        put_table(b, Table::fresh(max));
-    }
+    (1 <= program) & (program <= Table::PROGRAMS)
 }
 
-fn make_answer(no: u32) -> Made
-    ensures { paper_made result ≡ verdict no }
+// Whether a table may be made of lent memory, and why not.
+fn may_make(b: &[u8], max: u32) -> Result<(), Reason>
+    ensures { verdict (refused_by result) ≡ only (making b.now max) }
 {
-    if no == 0 {
-        return Made::Fresh;
+    if !is_max(max) {
+        return Err(Reason::OutOfRange);
     }
-    Made::Refused(Refusal::plain(no))
+    if b.len() != Table::SIZE {
+        return Err(Reason::Unsound);
+    }
+    Ok(())
 }
 
 // Makes a fresh table of lent memory, whatever stood there.
-pub fn make(b: &mut [u8], max: u32) -> Made
+pub fn make(b: &mut [u8], max: u32) -> Result<(), Refusal>
     ensures { (paper_made result ≡ making b.old max) × (b.new ≡ made_bytes b.old max) }
 {
-    let no = make_refusal(b, max);
-    make_now(b, max, no);
-    make_answer(no)
+    may_make(b, max)?;
+    Table::clear(b);
+    put_table(b, Table::fresh(max));
+    Ok(())
 }
 
 fn is_placeable(program: u32, count: u32) -> bool
     ensures { result ≡ (within 1 program programs && within 1 count commands) }
 {
-    (1 <= program) & (program <= Table::PROGRAMS) & ((1 <= count) & (count <= Table::COMMANDS))
+    is_program(program) & ((1 <= count) & (count <= Table::COMMANDS))
 }
 
 // The lowest open number is taken, or none is open, or no ticket is left.
-fn place_lowest(b: &mut [u8], program: u32, count: u32) -> SessionPlaced
+fn place_lowest(b: &mut [u8], program: u32, count: u32) -> Result<(SessionNumber, Ticket), Refusal>
     requires { (sound_bytes b.old ≡ true) × ((within 1 program programs && within 1 count commands) ≡ true) }
     ensures { (paper_placed result ≡ placing b.old program count) × (b.new ≡ placed_bytes b.old program count) }
 {
-    let Some(s) = lowest_open(b) else {
-        return SessionPlaced::Refused(Refusal::plain(ALL_TAKEN));
-    };
+    let s = lowest_open(b).ok_or(Reason::AllTaken)?;
     let last = get_table(b).last;
     if Table::TICKET_MOST <= last.0 {
-        return SessionPlaced::Refused(Refusal::plain(NO_TICKET_LEFT));
+        return Err(Reason::NoTicketLeft.into());
     }
     let ticket = Ticket(last.0 + 1);
     put_head(b, s, Head::placed(program, count, ticket));
     put_last(b, ticket);
-    SessionPlaced::At(s, ticket)
+    Ok((s, ticket))
 }
 
 // Takes the lowest open number for a program's commands.
-pub fn place(b: &mut [u8], program: u32, count: u32) -> SessionPlaced
+pub fn place(b: &mut [u8], program: u32, count: u32) -> Result<(SessionNumber, Ticket), Refusal>
     ensures { (paper_placed result ≡ placing b.old program count) × (b.new ≡ placed_bytes b.old program count) }
 {
-    if is_sound(b) {
-        if is_placeable(program, count) {
-            return place_lowest(b, program, count);
-        }
-        return SessionPlaced::Refused(Refusal::plain(OUT_OF_RANGE));
+    if !is_sound(b) {
+        return Err(Reason::Unsound.into());
     }
-    SessionPlaced::Refused(Refusal::plain(UNSOUND))
+    if !is_placeable(program, count) {
+        return Err(Reason::OutOfRange.into());
+    }
+    place_lowest(b, program, count)
 }
 
 // The session's lowest unanswered command.
-fn given(b: &[u8], s: SessionNumber) -> TakenUp
+fn given(b: &[u8], s: SessionNumber) -> (SessionNumber, Ticket, CommandNumber)
     requires { (sound_bytes b.now ≡ true) × (is_waiting (slot_of b.now s.0) ≡ true) }
-    ensures { paper_taken_up result ≡ given_from (abs b.now) s.0 }
+    ensures { done (result.0.0, result.1.0, result.2.0) ≡ given_from (abs b.now) s.0 }
 {
     let h = get_head(b, s);
     let t = h.ticket;
     let command = h.lowest();
-    TakenUp::Given(s, t, command)
+    (s, t, command)
 }
 
 // The session is next in turn: its command is in hand now.
-fn take_up_at(b: &mut [u8], s: SessionNumber) -> TakenUp
+fn take_up_at(b: &mut [u8], s: SessionNumber) -> (SessionNumber, Ticket, CommandNumber)
     requires { (only (taking_up b.old) ≡ done tt) × (number b.old hand_at ≡ 0) × (is_waiting (slot_of b.old s.0) ≡ true) × (given_from (abs b.old) s.0 ≡ taking_up b.old) }
-    ensures { (paper_taken_up result ≡ taking_up b.old) × (b.new ≡ taken_bytes b.old) }
+    ensures { (done (result.0.0, result.1.0, result.2.0) ≡ taking_up b.old) × (b.new ≡ taken_bytes b.old) }
 {
     let r = given(b, s);
     put_mark(b, s);
@@ -155,28 +115,26 @@ fn take_up_at(b: &mut [u8], s: SessionNumber) -> TakenUp
 }
 
 // Nothing is in hand.
-fn take_up_next(b: &mut [u8]) -> TakenUp
+fn take_up_next(b: &mut [u8]) -> Result<(SessionNumber, Ticket, CommandNumber), Refusal>
     requires { (sound_bytes b.old ≡ true) × (number b.old hand_at ≡ 0) }
     ensures { (paper_taken_up result ≡ taking_up b.old) × (b.new ≡ taken_bytes b.old) }
 {
-    let Some(s) = next_waiting(b) else {
-        return TakenUp::Refused(Refusal::plain(NOTHING_UNANSWERED));
-    };
-    take_up_at(b, s)
+    let s = next_waiting(b).ok_or(Reason::NothingUnanswered)?;
+    Ok(take_up_at(b, s))
 }
 
 // Gives the command in hand again, or takes up the next.
-pub fn take_up(b: &mut [u8]) -> TakenUp
+pub fn take_up(b: &mut [u8]) -> Result<(SessionNumber, Ticket, CommandNumber), Refusal>
     ensures { (paper_taken_up result ≡ taking_up b.old) × (b.new ≡ taken_bytes b.old) }
 {
-    if is_sound(b) {
-        let hand = get_table(b).hand;
-        if hand == 0 {
-            return take_up_next(b);
-        }
-        return given(b, SessionNumber(hand - 1));
+    if !is_sound(b) {
+        return Err(Reason::Unsound.into());
     }
-    TakenUp::Refused(Refusal::plain(UNSOUND))
+    let hand = get_table(b).hand;
+    if hand == 0 {
+        return take_up_next(b);
+    }
+    Ok(given(b, SessionNumber(hand - 1)))
 }
 
 // Whether ticket and command are those of the command in hand.
@@ -191,35 +149,23 @@ fn names_hand(b: &[u8], ticket: Ticket, command: CommandNumber) -> bool
     get_head(b, SessionNumber(hand - 1)).names(ticket, command)
 }
 
-fn answer_refusal(b: &[u8], ticket: Ticket, command: CommandNumber, a: Answer) -> u32
-    ensures { verdict result ≡ only (answering b.now ticket.0 command.0 a) }
+// Whether an answer is accepted, and why not.
+fn may_answer(b: &[u8], ticket: Ticket, command: CommandNumber, a: Answer) -> Result<(), Reason>
+    ensures { verdict (refused_by result) ≡ only (answering b.now ticket.0 command.0 a) }
 {
-    if is_sound(b) {
-        if names_hand(b, ticket, command) {
-            let o = a.outcome;
-            let real = moment::is_real(a.date, a.time);
-            let wrong = !record::is_outcome(o);
-            if real {
-                if wrong { NOT_A_RECORD } else { 0 }
-            } else {
-                NOT_REAL
-            }
-        } else {
-            NOT_THE_ONE
-        }
-    } else {
-        UNSOUND
+    if !is_sound(b) {
+        return Err(Reason::Unsound);
     }
-}
-
-fn answer_now(b: &mut [u8], ticket: Ticket, command: CommandNumber, a: Answer) -> Answered
-    requires { only (answering b.old ticket.0 command.0 a) ≡ done tt }
-    ensures { (paper_answered result ≡ answering b.old ticket.0 command.0 a) × (b.new ≡ answered_bytes b.old ticket.0 command.0 a) }
-{
-    let hand = get_table(b).hand;
-    answer_slot(b, SessionNumber(hand - 1), a);
-    put_hand(b, 0);
-    Answered::Accepted
+    if !names_hand(b, ticket, command) {
+        return Err(Reason::NotTheOne);
+    }
+    if !moment::is_real(a.date, a.time) {
+        return Err(Reason::NotReal);
+    }
+    if !record::is_outcome(a.outcome) {
+        return Err(Reason::NotARecord);
+    }
+    Ok(())
 }
 
 // Accepts the answer to the command in hand.
@@ -230,7 +176,7 @@ pub fn answer(
     outcome: Outcome,
     date: u32,
     time: u32,
-) -> Answered
+) -> Result<(), Refusal>
     ensures { (paper_answered result ≡ answering b.old ticket.0 command.0 (record { outcome = outcome; date = date; time = time })) × (b.new ≡ answered_bytes b.old ticket.0 command.0 (record { outcome = outcome; date = date; time = time })) }
 {
     let a = Answer {
@@ -238,39 +184,42 @@ pub fn answer(
         date,
         time,
     };
-    let no = answer_refusal(b, ticket, command, a);
-    if no == 0 {
-        return answer_now(b, ticket, command, a);
-    }
-    Answered::Refused(Refusal::plain(no))
+    may_answer(b, ticket, command, a)?;
+    let hand = get_table(b).hand;
+    answer_slot(b, SessionNumber(hand - 1), a);
+    put_hand(b, 0);
+    Ok(())
 }
 
 // The reply of the session that is ready is written and its number opened, or none is ready, or there is too little room.
-fn collect_ready(b: &mut [u8], program: u32, ticket: Ticket, out: &mut [u8]) -> Collected
+fn collect_ready(
+    b: &mut [u8],
+    program: u32,
+    ticket: Ticket,
+    out: &mut [u8],
+) -> Result<usize, Refusal>
     requires { (sound_bytes b.old ≡ true) × (within 1 program programs ≡ true) }
     ensures { Collects b.old program ticket.0 out.old result b.new out.new }
 {
-    let Some(s) = ready_session(b, program, ticket) else {
-        return Collected::Refused(Refusal::plain(NOT_THE_ONE));
-    };
+    let s = ready_session(b, program, ticket).ok_or(Reason::NotTheOne)?;
     let n = get_head(b, s).count;
     if out.len() < reply_length(b, s, n) {
-        return Collected::Refused(Refusal::plain(TOO_LITTLE_ROOM));
+        return Err(Reason::TooLittleRoom.into());
     }
     let written = write_reply(b, s, n, out);
     open_number(b, s);
-    Collected::Written(written)
+    Ok(written)
 }
 
 // Writes the reply of a closed session, and opens its number. Output beyond the reply stays.
-pub fn collect(b: &mut [u8], program: u32, ticket: Ticket, out: &mut [u8]) -> Collected
+pub fn collect(b: &mut [u8], program: u32, ticket: Ticket, out: &mut [u8]) -> Result<usize, Refusal>
     ensures { Collects b.old program ticket.0 out.old result b.new out.new }
 {
-    if is_sound(b) {
-        if (1 <= program) & (program <= Table::PROGRAMS) {
-            return collect_ready(b, program, ticket, out);
-        }
-        return Collected::Refused(Refusal::plain(OUT_OF_RANGE));
+    if !is_sound(b) {
+        return Err(Reason::Unsound.into());
     }
-    Collected::Refused(Refusal::plain(UNSOUND))
+    if !is_program(program) {
+        return Err(Reason::OutOfRange.into());
+    }
+    collect_ready(b, program, ticket, out)
 }

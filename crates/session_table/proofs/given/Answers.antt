@@ -1,5 +1,4 @@
 use Rattle.table_search.proofs.Sounds.{sound_size, waits, waiting_head}
-use Rattle.session_table.specs.Paper.{paper_taken_up}
 use Rattle.session_table.proofs.Turns.{given_is}
 use Rattle.session_table.proofs.given.Goals as goal
 
@@ -10,7 +9,4 @@ pub lowest-command-requires : goal.lowest-command-requires
 lowest-command-requires c = waiting_head _ _ _ (waits _ c.requires.0 _ c.requires.1) c.get_head-h.ensures
 
 pub returns : goal.returns
-unfolding paper_taken_up
-returns c =
-    given_is _ _ _ (waits _ c.requires.0 _ c.requires.1)
-    c.get_head-h.ensures _ c.lowest-command.ensures
+returns c = given_is _ _ _ (waits _ c.requires.0 _ c.requires.1) c.get_head-h.ensures _ c.lowest-command.ensures
