@@ -2,11 +2,10 @@
 // number, and so another file on the share, A collects its own reply, and the old ticket is refused from then on.
 #![tactic(auto)]
 
-use counts::{CommandNumber, SessionNumber, Ticket};
+use counts::{CommandNumber, Refusal, SessionNumber, Ticket};
 use record::Outcome;
-use session_name::Kind;
-use session_table::{Answered, Collected, Made, SessionPlaced, TakenUp};
-use std::io;
+use session_name::{Kind, NAME_BYTES};
+use std::{fmt, io, str};
 use table_layout::Table;
 
 const MAX_SESSIONS: u32 = 2;
@@ -17,54 +16,58 @@ const B: u32 = 2;
 
 const DATE: u32 = 20240430;
 
-fn print_number(rt: &impl Print, what: &str, n: u64) -> io::Result<()> {
-    print!(rt; "{what}{n}")
+// A session's request, shown by its file's name on the share.
+#[derive(Clone, Copy, Debug, PartialEq, Eq, Hash)]
+struct Request(SessionNumber);
+
+impl fmt::Display for Request {
+    fn fmt<W: fmt::Write>(&self, f: &mut fmt::Formatter<W>) -> fmt::Result {
+        let mut name = [0u8; NAME_BYTES];
+        session_name::write_name(self.0, Kind::Request, MAX_SESSIONS, &mut name).map_err(
+            |_| fmt::Error,
+        )?;
+        f.write_str(str::from_utf8(&name).map_err(|_| fmt::Error)?)
+    }
 }
 
-// The session's file, as it is called on the share.
-fn print_file(rt: &impl Print, number: SessionNumber, kind: Kind) -> io::Result<()> {
-    let mut name = [0u8; 12];
-    session_name::write_name(number, kind, MAX_SESSIONS, &mut name);
-    rt.write_all(&name)
-}
+// A refusal, shown by its number, as none of these has a place.
+#[derive(Clone, Copy, Debug, PartialEq, Eq, Hash)]
+struct Refused(Refusal);
 
-fn print_refusal(rt: &impl Print, number: u32) -> io::Result<()> {
-    print_number(rt, "refused with ", number as u64)?;
-    println!(rt)
+impl fmt::Display for Refused {
+    fn fmt<W: fmt::Write>(&self, f: &mut fmt::Formatter<W>) -> fmt::Result {
+        write!(f, "refused with {}", self.0.reason.number())
+    }
 }
 
 fn make(rt: &impl Print, table: &mut [u8]) -> io::Result<()> {
     print!(rt; "a fresh table of two sessions: ")?;
     match session_table::make(table, MAX_SESSIONS) {
-        Made::Fresh => println!(rt; "made"),
-        Made::Refused(r) => print_refusal(rt, r.number),
+        Ok(()) => println!(rt; "made"),
+        Err(refusal) => println!(rt; "{}", Refused(refusal)),
     }
 }
 
 fn place(rt: &impl Print, who: &str, table: &mut [u8], program: u32, count: u32) -> io::Result<()> {
-    print!(rt; "{who}")?;
-    print_number(rt, " places a request, commands: ", count as u64)?;
-    print!(rt; ": ")?;
+    print!(rt; "{who} places a request, commands: {count}: ")?;
     match session_table::place(table, program, count) {
-        SessionPlaced::At(s, t) => {
-            print_file(rt, s, Kind::Request)?;
-            print_number(rt, ", ticket ", t.0 as u64)?;
-            println!(rt)
-        }
-        SessionPlaced::Refused(r) => print_refusal(rt, r.number),
+        Ok((session, ticket)) => println!(rt; "{}, ticket {}", Request(session), ticket.0),
+        Err(refusal) => println!(rt; "{}", Refused(refusal)),
     }
 }
 
 fn take_up(rt: &impl Print, table: &mut [u8]) -> io::Result<()> {
     print!(rt; "the machine takes up: ")?;
     match session_table::take_up(table) {
-        TakenUp::Given(s, t, c) => {
-            print_file(rt, s, Kind::Request)?;
-            print_number(rt, ", ticket ", t.0 as u64)?;
-            print_number(rt, ", command ", c.0 as u64)?;
-            println!(rt)
+        Ok((session, ticket, command)) => {
+            println!(rt;
+                "{}, ticket {}, command {}",
+                Request(session),
+                ticket.0,
+                command.0
+            )
         }
-        TakenUp::Refused(r) => print_refusal(rt, r.number),
+        Err(refusal) => println!(rt; "{}", Refused(refusal)),
     }
 }
 
@@ -76,9 +79,7 @@ fn answer(
     outcome: Outcome,
     time: u32,
 ) -> io::Result<()> {
-    print_number(rt, "the machine answers command ", command as u64)?;
-    print_number(rt, " under ticket ", ticket as u64)?;
-    print!(rt; ": ")?;
+    print!(rt; "the machine answers command {command} under ticket {ticket}: ")?;
     match session_table::answer(
         table,
         Ticket(ticket),
@@ -87,16 +88,9 @@ fn answer(
         DATE,
         time,
     ) {
-        Answered::Accepted => println!(rt; "accepted"),
-        Answered::Refused(r) => print_refusal(rt, r.number),
+        Ok(()) => println!(rt; "accepted"),
+        Err(refusal) => println!(rt; "{}", Refused(refusal)),
     }
-}
-
-fn print_front(rt: &impl Print, reply: &[u8], n: usize) -> io::Result<()> {
-    if n <= reply.len() {
-        rt.write_all(&reply[..n])?;
-    }
-    Ok(())
 }
 
 fn collect(
@@ -106,17 +100,14 @@ fn collect(
     program: u32,
     ticket: u32,
 ) -> io::Result<()> {
-    print!(rt; "{who}")?;
-    print_number(rt, " collects under ticket ", ticket as u64)?;
-    print!(rt; ": ")?;
+    print!(rt; "{who} collects under ticket {ticket}: ")?;
     let mut reply = [0u8; 4096];
     match session_table::collect(table, program, Ticket(ticket), &mut reply) {
-        Collected::Written(n) => {
-            print_number(rt, "", n as u64)?;
-            println!(rt; " bytes")?;
-            print_front(rt, &reply, n)
+        Ok(n) => {
+            println!(rt; "{n} bytes")?;
+            rt.write_all(reply.get(..n).unwrap_or_default())
         }
-        Collected::Refused(r) => print_refusal(rt, r.number),
+        Err(refusal) => println!(rt; "{}", Refused(refusal)),
     }
 }
 
