@@ -14,8 +14,6 @@ use Rattle.counts.specs.Refusals.{out_of_range, too_little_room}
 use Rattle.counts.specs.Result.{Result, refused, done}
 use Rattle.counts.proofs.Results.{refused_not_done}
 use Rattle.field.specs.Bytes.{ascii, has_at}
-use Rattle.decimal.specs.declared.DigitsRead.{DigitsRead}
-use Rattle.decimal.specs.declared.DigitsRead.TheVariants.{Value, NotDigits}
 use Rattle.session_name.specs.Name.{no_name, kind_read, number_read, is_framed, name_read, write_refusal, written, written_bytes, paper_name_read, paper_name_written}
 use Rattle.session_name.specs.declared.Kind.{Kind}
 use Rattle.session_name.specs.declared.Kind.TheVariants.{Request, Response}
@@ -24,6 +22,8 @@ use Rattle.session_name.proofs.RoundTrip.{name_reads, name_back}
 use Rattle.claims.specs.Exactly.{Exactly, OneResult}
 use Rattle.claims.specs.NameRows.{in_range, WriteNameRow, not_in_range, no_room, name_written, ReadNameRow, name_read_row, no_name_row}
 use Rattle.claims.proofs.Demand1.{refused_stays, one_result}
+use Rattle.std.specs.declared.option.Option.{Option}
+use Rattle.std.specs.declared.option.Option.TheVariants.{Some, None}
 
 pub read_name_determined : OneResult (Unit {0}) paper_name_read
 read_name_determined = one_result read_says_all
@@ -68,10 +68,10 @@ unfolding kind_read
 kind_ways n name =
     choice (has_at name 8 (ascii ".REQ")) (inl (n, Request, refl)) (choice (has_at name 8 (ascii ".RSP")) (inl (n, Response, refl)) (inr refl))
 
-number_ways : (max : ℕ) (name : List ℕ) (d : DigitsRead) → ReadOr11 (number_read max name d)
+number_ways : (max : ℕ) (name : List ℕ) (d : Option ℕ) → ReadOr11 (number_read max name d)
 unfolding number_read
-number_ways max name (Value n) = choice (ltb n max) (kind_ways n name) (inr refl)
-number_ways max name NotDigits = inr refl
+number_ways max name (Some n) = choice (ltb n max) (kind_ways n name) (inr refl)
+number_ways max name None = inr refl
 
 two_ways : (max : ℕ) (name : List ℕ) → ReadOr11 (name_read max name)
 unfolding name_read

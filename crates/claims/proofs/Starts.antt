@@ -9,8 +9,6 @@ use native.Mathlib.Omega.{arith}
 use lib.Dec.{eqb}
 use Rattle.counts.specs.Result.{done}
 use Rattle.calendar.specs.Calendar.{real_date, real_time}
-use Rattle.decimal.specs.declared.DigitsRead.{DigitsRead}
-use Rattle.decimal.specs.declared.DigitsRead.TheVariants.{Value, NotDigits}
 use Rattle.field.specs.Part.{part}
 use Rattle.scan.specs.Run.{blank_end}
 use Rattle.word.specs.declared.Word.{Word}
@@ -36,6 +34,8 @@ use Rattle.job.specs.Statement.{placed, read_statement}
 use Rattle.job_claims.proofs.Statements.{reading_exactly}
 use Rattle.start.specs.Due.{Given, Permitted, OwnReal, AllPermitted, HasClause}
 use Rattle.start.specs.Due as start
+use Rattle.std.specs.declared.option.Option.{Option}
+use Rattle.std.specs.declared.option.Option.TheVariants.{Some, None}
 
 -- ---- what a token of a file says, by its class
 
@@ -80,11 +80,11 @@ word_in_order s a x word.Name = tt
 word_in_order s a x word.TimeGe = tt
 
 -- a number, of eight bare digits or not
-number_in_order : (s : List ℕ) (a : ℕ) (n : Number) → Permitted (start.number (paper_number n)) → (eight : Bool) (d : DigitsRead)
+number_in_order : (s : List ℕ) (a : ℕ) (n : Number) → Permitted (start.number (paper_number n)) → (eight : Bool) (d : Option ℕ)
     → InOrder s (cond eight (date_class d) class.number) a (says_number (cond eight (value_of d) 0) n)
 number_in_order s a n p false d = p
-number_in_order s a n p true NotDigits = p
-number_in_order s a n p true (Value k) = go (real_date k) refl
+number_in_order s a n p true None = p
+number_in_order s a n p true (Some k) = go (real_date k) refl
   where
     go : (r : Bool) → real_date k ≡ r → InOrder s (cond r class.date class.unreal_date) a (says_number k n)
     go true e = (e, p)

@@ -13,14 +13,14 @@ use Rattle.decimal.specs.Digits.{digits, value, is_digit, all_digits}
 use Rattle.laws.proofs.Choose.{and_left, and_right}
 use Rattle.field.specs.Part.{part}
 use Rattle.decimal.specs.Read.{digits_read}
-use Rattle.decimal.specs.declared.DigitsRead.{DigitsRead}
-use Rattle.decimal.specs.declared.DigitsRead.TheVariants.{Value, NotDigits}
 use Rattle.field.proofs.Parts.{part_cons, length_part, length_part_in}
+use Rattle.std.specs.declared.option.Option.{Option}
+use Rattle.std.specs.declared.option.Option.TheVariants.{Some, None}
 
 -- acc, and the bytes still to be read
-unfoldable pub read_from : ℕ → List ℕ → DigitsRead
-read_from acc [] = Value acc
-read_from acc (d ∷ ds) = cond (is_digit d) (read_from (acc * 10 + (d - 48)) ds) NotDigits
+unfoldable pub read_from : ℕ → List ℕ → Option ℕ
+read_from acc [] = Some acc
+read_from acc (d ∷ ds) = cond (is_digit d) (read_from (acc * 10 + (d - 48)) ds) None
 
 -- Horner's step
 horner : (acc x k v : ℕ) → (acc * 10 + x) * 10 ^ k + v ≡ acc * 10 ^ suc k + (x * 10 ^ k + v)
@@ -29,17 +29,17 @@ horner acc x k v =
     (mul_assoc acc 10 (10 ^ k) ∙ ap (λ (m : ℕ). acc * m) (sym (pow-succ' 10 k))))
     ∙ add_assoc (acc * 10 ^ suc k) (x * 10 ^ k) v
 
-pick_all : (t b : Bool) (u v : DigitsRead) → u ≡ cond b v NotDigits → cond t u NotDigits ≡ cond (t && b) v NotDigits
+pick_all : (t b : Bool) (u v : Option ℕ) → u ≡ cond b v None → cond t u None ≡ cond (t && b) v None
 pick_all true b u v e = e
 pick_all false b u v e = refl
 
-read_from_lem : (ds : List ℕ) (acc : ℕ) → read_from acc ds ≡ cond (all_digits ds) (Value (acc * 10 ^ length ds + value ds)) NotDigits
+read_from_lem : (ds : List ℕ) (acc : ℕ) → read_from acc ds ≡ cond (all_digits ds) (Some (acc * 10 ^ length ds + value ds)) None
 unfolding read_from all_digits value
-read_from_lem [] acc = ap Value (omega (arith, mul-one acc))
+read_from_lem [] acc = ap Some (omega (arith, mul-one acc))
 read_from_lem (d ∷ ds) acc =
     pick_all (is_digit d) (all_digits ds) _ _
     (read_from_lem ds (acc * 10 + (d - 48))
-    ∙ ap (λ (m : ℕ). cond (all_digits ds) (Value m) NotDigits) (horner acc (d - 48) (length ds) (value ds)))
+    ∙ ap (λ (m : ℕ). cond (all_digits ds) (Some m) None) (horner acc (d - 48) (length ds) (value ds)))
 
 -- where the loop begins
 pub read_start : (s : List ℕ) (at w : ℕ) → at + w ≤ length s → read_from 0 (part s at w) ≡ digits_read w (part s at w)
@@ -47,12 +47,12 @@ unfolding digits_read
 read_start s at w h =
     let ds = part s at w in
     rw (eq-eqb (length ds) w (length_part_in s at w h))
-    (read_from_lem ds 0 ∙ ap (λ (m : ℕ). cond (all_digits ds) (Value m) NotDigits) (omega arith))
+    (read_from_lem ds 0 ∙ ap (λ (m : ℕ). cond (all_digits ds) (Some m) None) (omega arith))
 
 -- a turn
 pub read_turn : (s : List ℕ) (at i w acc : ℕ) → i < w → at + w ≤ length s
     → read_from acc (part s (at + i) (w - i))
-    ≡ cond (is_digit (get_or s (at + i) 0)) (read_from (acc * 10 + (get_or s (at + i) 0 - 48)) (part s (at + (i + 1)) (w - (i + 1)))) NotDigits
+    ≡ cond (is_digit (get_or s (at + i) 0)) (read_from (acc * 10 + (get_or s (at + i) 0 - 48)) (part s (at + (i + 1)) (w - (i + 1)))) None
 unfolding read_from
 read_turn s at i w acc h room =
     let e : w - i ≡ suc (w - (i + 1)) = omega arith in
@@ -61,7 +61,7 @@ read_turn s at i w acc h room =
 
 -- a byte that is no digit
 pub read_stop : (s : List ℕ) (at i w acc : ℕ) → i < w → at + w ≤ length s → is_digit (get_or s (at + i) 0) ≡ false
-    → read_from acc (part s (at + i) (w - i)) ≡ NotDigits
+    → read_from acc (part s (at + i) (w - i)) ≡ None
 read_stop s at i w acc h room no_digit = read_turn s at i w acc h room ∙ rw no_digit
 
 -- a digit
@@ -70,14 +70,14 @@ pub read_on : (s : List ℕ) (at i w acc : ℕ) → i < w → at + w ≤ length 
 read_on s at i w acc h room digit = read_turn s at i w acc h room ∙ rw digit
 
 -- where it ends
-pub read_end : (s : List ℕ) (at i w acc : ℕ) → i ≡ w → read_from acc (part s (at + i) (w - i)) ≡ Value acc
+pub read_end : (s : List ℕ) (at i w acc : ℕ) → i ≡ w → read_from acc (part s (at + i) (w - i)) ≡ Some acc
 unfolding read_from part
 read_end s at i w acc e =
     let z : w - i ≡ 0 = omega arith in
     rw z
 
 -- too few bytes
-pub read_short : (s : List ℕ) (at w : ℕ) → 0 < w → length s < at + w → NotDigits ≡ digits_read w (part s at w)
+pub read_short : (s : List ℕ) (at w : ℕ) → 0 < w → length s < at + w → None ≡ digits_read w (part s at w)
 unfolding digits_read
 read_short s at w h short =
     let e : eqb (length (part s at w)) w ≡ false = ne_eqb (length (part s at w)) w (λ p. omega (arith, length_part s at w)) in
@@ -102,15 +102,15 @@ all_digits_lem (suc w) n =
     let small : x < 10 = omega arith in
     rw (digit_byte (48 + x) (omega arith) (omega arith), all_digits_lem w n)
 
-pub read_done : (w v : ℕ) → v < 10 ^ w → digits_read w (digits w v) ≡ Value v
+pub read_done : (w v : ℕ) → v < 10 ^ w → digits_read w (digits w v) ≡ Some v
 unfolding digits_read
 read_done w v h = rw (eq-eqb (length (digits w v)) w (length_digits w v), all_digits_lem w v, value_digits w v h)
 
-pub read_back : (w : ℕ) (p : List ℕ) (v : ℕ) → digits_read w p ≡ Value v → (p ≡ digits w v) × (v < 10 ^ w)
+pub read_back : (w : ℕ) (p : List ℕ) (v : ℕ) → digits_read w p ≡ Some v → (p ≡ digits w v) × (v < 10 ^ w)
 unfolding digits_read
 read_back w p v h = go ((eqb (length p) w && all_digits p)) refl h
   where
-    go : (b : Bool) → (eqb (length p) w && all_digits p) ≡ b → cond b (Value (value p)) NotDigits ≡ Value v → (p ≡ digits w v) × (v < 10 ^ w)
+    go : (b : Bool) → (eqb (length p) w && all_digits p) ≡ b → cond b (Some (value p)) None ≡ Some v → (p ≡ digits w v) × (v < 10 ^ w)
     go true t e =
         let long : length p ≡ w = eqb-true (length p) w (and_left (eqb (length p) w) (all_digits p) t) in
         let ds : all_digits p ≡ true = and_right (eqb (length p) w) (all_digits p) t in

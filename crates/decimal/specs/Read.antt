@@ -2,9 +2,9 @@
 -- that number, which it takes.
 use Rattle.std.specs.Prelude.{ℕ, cond, ◌&&◌, List, length, eqb}
 use Rattle.decimal.specs.Digits.{value, all_digits}
-use Rattle.decimal.specs.declared.DigitsRead.{DigitsRead}
-use Rattle.decimal.specs.declared.DigitsRead.TheVariants.{Value, NotDigits}
+use Rattle.std.specs.declared.option.Option.{Option}
+use Rattle.std.specs.declared.option.Option.TheVariants.{Some, None}
 
 -- w bytes, all of them digits: their value
-unfoldable pub digits_read : ℕ → List ℕ → DigitsRead
-digits_read w ds = cond (eqb (length ds) w && all_digits ds) (Value (value ds)) NotDigits
+unfoldable pub digits_read : ℕ → List ℕ → Option ℕ
+digits_read w ds = cond (eqb (length ds) w && all_digits ds) (Some (value ds)) None

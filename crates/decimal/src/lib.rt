@@ -6,12 +6,6 @@ ghost use Rattle.field.specs.Part.{part, Wrote};
 ghost use Rattle.decimal.specs.Digits.{digits, plain_width};
 ghost use Rattle.decimal.specs.Read.{digits_read};
 
-#[derive(Clone, Copy)]
-pub enum DigitsRead {
-    Value(u64),
-    NotDigits,
-}
-
 // The power of ten at the k-th place of a field, from 0 on: each is ten times the one below. Where k is known to the compiler, so is the
 // power.
 fn ten_to(k: usize) -> u64
@@ -75,30 +69,30 @@ pub fn put_digits(out: &mut [u8], at: usize, width: usize, n: u64) -> usize
 }
 
 // Reads the width digits from at on.
-pub fn digits_at(s: &[u8], at: usize, width: usize) -> DigitsRead
+pub fn digits_at(s: &[u8], at: usize, width: usize) -> Option<u64>
     requires { (0 < width) × (width ≤ 16) }
     ensures { result ≡ digits_read width (part s.now at width) }
 {
     if s.len() < at {
-        return DigitsRead::NotDigits;
+        return None;
     }
     if s.len() - at < width {
-        return DigitsRead::NotDigits;
+        return None;
     }
     let mut acc: u64 = 0;
     let mut i = 0;
     while i < width {
         let b = s[at + i];
         if b < 48 {
-            return DigitsRead::NotDigits;
+            return None;
         }
         if 57 < b {
-            return DigitsRead::NotDigits;
+            return None;
         }
         acc = acc * 10 + wide(b - 48);
         i += 1;
     }
-    DigitsRead::Value(acc)
+    Some(acc)
 }
 
 fn wide(x: u8) -> u64

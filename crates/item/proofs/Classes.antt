@@ -7,12 +7,12 @@ use borrow.Author.Tests.{eq-eqb, ne_eqb}
 use Rattle.calendar.specs.Calendar.{real_date}
 use Rattle.decimal.specs.Read.{digits_read}
 use Rattle.decimal.proofs.ReadLaws.{read_back}
-use Rattle.decimal.specs.declared.DigitsRead.{DigitsRead}
-use Rattle.decimal.specs.declared.DigitsRead.TheVariants.{Value, NotDigits}
 use Rattle.laws.proofs.Choose.{choose}
 use Rattle.grammar.specs.Grammar.{Class, class_no}
 use Rattle.grammar.specs.Grammar.Class.{number, date, unreal_date}
 use Rattle.item.specs.Tokens.{eight_at, number_class, date_number, two_at, time_number}
+use Rattle.std.specs.declared.option.Option.{Option}
+use Rattle.std.specs.declared.option.Option.TheVariants.{Some, None}
 
 module _ (x : ℕ) (y z : Class) (t r : Bool) where
   pub yes_class : r ≡ true → r ≡ t → x ≡ class_no y → x ≡ class_no (cond t y z)
@@ -33,20 +33,20 @@ module _ (s : List ℕ) (a b : ℕ) where
   unfolding number_class date_number
   other_length h = record { class = rw (ne_eqb _ _ h); value = rw (ne_eqb _ _ h) }
 
-  pub not_bare : b - a ≡ 8 → eight_at s a ≡ NotDigits → Dated s a b number 0
+  pub not_bare : b - a ≡ 8 → eight_at s a ≡ None → Dated s a b number 0
   unfolding number_class date_number
   not_bare h e = record { class = rw (eq-eqb _ _ h, e); value = rw (eq-eqb _ _ h, e) }
 
-  pub a_date : (n : ℕ) → b - a ≡ 8 → eight_at s a ≡ Value n → real_date n ≡ true → Dated s a b date n
+  pub a_date : (n : ℕ) → b - a ≡ 8 → eight_at s a ≡ Some n → real_date n ≡ true → Dated s a b date n
   unfolding number_class date_number
   a_date n h e r = record { class = rw (eq-eqb _ _ h, e, r); value = rw (eq-eqb _ _ h, e) }
 
-  pub no_date : (n : ℕ) → b - a ≡ 8 → eight_at s a ≡ Value n → real_date n ≡ false → Dated s a b unreal_date n
+  pub no_date : (n : ℕ) → b - a ≡ 8 → eight_at s a ≡ Some n → real_date n ≡ false → Dated s a b unreal_date n
   unfolding number_class date_number
   no_date n h e r = record { class = rw (eq-eqb _ _ h, e, r); value = rw (eq-eqb _ _ h, e) }
 
 -- a field of digits fits its width
-pub field_fits : (w : ℕ) (p : List ℕ) (n : ℕ) (r : DigitsRead) → r ≡ digits_read w p → r ≡ Value n → n < 10 ^ w
+pub field_fits : (w : ℕ) (p : List ℕ) (n : ℕ) (r : Option ℕ) → r ≡ digits_read w p → r ≡ Some n → n < 10 ^ w
 field_fits w p n r d e = (read_back w p n (sym d ∙ e)).1
 
 -- a time's number, from its three fields

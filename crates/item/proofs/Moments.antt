@@ -11,8 +11,6 @@ use borrow.Author.Tests.{eqb-true}
 use Rattle.calendar.specs.Calendar.{real_date}
 use Rattle.decimal.specs.Digits.{digits}
 use Rattle.decimal.specs.Read.{digits_read}
-use Rattle.decimal.specs.declared.DigitsRead.{DigitsRead}
-use Rattle.decimal.specs.declared.DigitsRead.TheVariants.{Value, NotDigits}
 use Rattle.decimal.proofs.Laws.{length_digits}
 use Rattle.decimal.proofs.ReadLaws.{read_done, read_back}
 use Rattle.field.specs.Bytes.{ascii}
@@ -20,13 +18,15 @@ use Rattle.field.specs.Part.{part}
 use Rattle.grammar.specs.Grammar.Class.{number, date, unreal_date}
 use Rattle.item.specs.Tokens.{value_of, date_class, eight_at, number_class, two_at, time_number}
 use Rattle.item.proofs.Classes.{Dated, a_date, no_date, timed}
+use Rattle.std.specs.declared.option.Option.{Option}
+use Rattle.std.specs.declared.option.Option.TheVariants.{Some, None}
 
 -- "A date is eight bare digits yyyymmdd": a number of these bytes
 pub date_says : (s ys : List ℕ) (a n : ℕ) → n < 10 ^ 8 → drop a s ≡ digits 8 n ++ ys → Dated s a (a + 8) (cond (real_date n) date unreal_date) n
 unfolding part
 date_says s ys a n l e = go (real_date n) refl
   where
-    eight : eight_at s a ≡ Value n
+    eight : eight_at s a ≡ Some n
     eight = ap (λ (p : List ℕ). digits_read 8 (take 8 p)) e ∙ ap (digits_read 8) (take_at (digits 8 n) ys 8 (length_digits 8 n)) ∙ read_done 8 n l
 
     go : (t : Bool) → real_date n ≡ t → Dated s a (a + 8) (cond t date unreal_date) n
@@ -38,10 +38,10 @@ pub no_other_date : (s : List ℕ) (a b : ℕ) → ((n : ℕ) → n < 10 ^ 8 →
 unfolding number_class
 no_other_date s a b none = go (eqb (b - a) 8) refl (eight_at s a) refl
   where
-    go : (t : Bool) → eqb (b - a) 8 ≡ t → (d : DigitsRead) → eight_at s a ≡ d → cond t (date_class d) number ≡ number
+    go : (t : Bool) → eqb (b - a) 8 ≡ t → (d : Option ℕ) → eight_at s a ≡ d → cond t (date_class d) number ≡ number
     go false p d e = refl
-    go true p NotDigits e = refl
-    go true p (Value n) e =
+    go true p None e = refl
+    go true p (Some n) e =
         let r = read_back 8 (part s a 8) n e in
         absurd (none n r.1 (omega (arith, eqb-true (b - a) 8 p)) r.0)
 

@@ -2,8 +2,6 @@
 use Rattle.std.specs.Prelude.{ℕ, zero, suc, ◌+◌, ◌-◌, ◌*◌, cond, ◌≡◌, List, [], ◌∷◌, eqb, length}
 use Rattle.calendar.specs.Calendar.{real_date, real_time}
 use Rattle.decimal.specs.Read.{digits_read}
-use Rattle.decimal.specs.declared.DigitsRead.{DigitsRead}
-use Rattle.decimal.specs.declared.DigitsRead.TheVariants.{Value, NotDigits}
 use Rattle.field.specs.Part.{part}
 use Rattle.word.specs.declared.Word.{Word}
 use Rattle.word.specs.declared.Word.TheVariants.{Job, Response, Upload, Download, GetInfo, Abort, Report, Event, Start, Active, Immediate, Other, Name, TimeGe}
@@ -21,6 +19,8 @@ use Rattle.grammar.specs.Statement as read
 use Rattle.grammar.specs.Productions.{Said, unsaid, Placed}
 use Rattle.grammar.specs.Reading.{Last}
 use Rattle.grammar.specs.Reading.Last.{end, no_token_at}
+use Rattle.std.specs.declared.option.Option.{Option}
+use Rattle.std.specs.declared.option.Option.TheVariants.{Some, None}
 
 -- the class of a word: STOP, TIME and NEVER stand in no production
 abbrev pub word_class : Word → Class
@@ -40,16 +40,16 @@ word_class Name = name
 word_class TimeGe = TIME≥
 
 -- the number that a field of digits is; 0 where it is none
-abbrev pub value_of : DigitsRead → ℕ
-value_of (Value n) = n
-value_of NotDigits = 0
+abbrev pub value_of : Option ℕ → ℕ
+value_of (Some n) = n
+value_of None = 0
 
 -- "A date is eight bare digits yyyymmdd": eight bytes of a number, as they read
-abbrev pub date_class : DigitsRead → Class
-date_class (Value n) = cond (real_date n) date unreal_date
-date_class NotDigits = number
+abbrev pub date_class : Option ℕ → Class
+date_class (Some n) = cond (real_date n) date unreal_date
+date_class None = number
 
-abbrev pub eight_at : List ℕ → ℕ → DigitsRead
+abbrev pub eight_at : List ℕ → ℕ → Option ℕ
 eight_at s a = digits_read 8 (part s a 8)
 
 unfoldable pub number_class : List ℕ → ℕ → ℕ → Class

@@ -15,7 +15,7 @@ ghost use Rattle.item.specs.Items.{no_token_no, refusal_no, zero, made_of, made,
 
 use calendar::{is_real_date, is_real_time};
 use counts::Reason;
-use decimal::{DigitsRead, digits_at};
+use decimal::digits_at;
 use number::{Number, number_at};
 use token::{Operator, Token, Why, next_token};
 use word::Word;
@@ -196,7 +196,7 @@ fn number_item(s: &[u8], base: usize, a: usize, b: usize) -> Item
 {
     let number = number_at(s, a, b - a);
     if b - a == 8 {
-        let DigitsRead::Value(n) = digits_at(s, a, 8) else {
+        let Some(n) = digits_at(s, a, 8) else {
             return item_with(base, NUMBER, a, b, 0, number, Operator::Equal);
         };
         let day = n as u32;
@@ -212,7 +212,7 @@ fn number_item(s: &[u8], base: usize, a: usize, b: usize) -> Item
 fn two_at(s: &[u8], a: usize) -> u32
     ensures { (result ≡ two_at s.now a) × (result < 100) }
 {
-    let DigitsRead::Value(n) = digits_at(s, a, 2) else {
+    let Some(n) = digits_at(s, a, 2) else {
         return 0;
     };
     n as u32

@@ -5,23 +5,22 @@ use Rattle.field.specs.Bytes.{has_at}
 use Rattle.field.specs.Part.{part, Wrote}
 use Rattle.decimal.specs.Digits.{digits}
 use Rattle.decimal.specs.Read.{digits_read}
-use Rattle.decimal.specs.declared.DigitsRead.{DigitsRead}
-use Rattle.decimal.specs.declared.DigitsRead.TheVariants.{Value, NotDigits}
-use Rattle.labelled.specs.declared.FieldRead.{FieldRead}
-use Rattle.labelled.specs.declared.FieldRead.TheVariants.{Field, NoField}
+use Rattle.std.specs.declared.option.Option.{Option}
+use Rattle.std.specs.declared.option.Option.TheVariants.{Some, None}
 
--- going on with what a field says, or stopping where it is not there
-abbrev pub on_digits : {R : Type 0} → DigitsRead → R → (ℕ → R) → R
-on_digits (Value v) stop go = go v
-on_digits NotDigits stop go = stop
+-- going on with what was read, or stopping where it is not there
+abbrev pub on_some : {T R : Type 0} → Option T → R → (T → R) → R
+on_some (Some x) stop go = go x
+on_some None stop go = stop
 
-abbrev pub on_field : {R : Type 0} → FieldRead → R → (ℕ → R) → R
-on_field (Field v) stop go = go v
-on_field NoField stop go = stop
+-- the same with two values
+abbrev pub on_pair : {A B R : Type 0} → Option (A × B) → R → (A → B → R) → R
+on_pair (Some (a, b)) stop go = go a b
+on_pair None stop go = stop
 
 -- the number in the w digits that stand after a fixed word at a place
-unfoldable pub field_after : List ℕ → ℕ → List ℕ → ℕ → FieldRead
-field_after s at word w = cond (has_at s at word) (on_digits (digits_read w (part s (at + length word) w)) NoField Field) NoField
+unfoldable pub field_after : List ℕ → ℕ → List ℕ → ℕ → Option ℕ
+field_after s at word w = cond (has_at s at word) (on_some (digits_read w (part s (at + length word) w)) None Some) None
 
 -- a word and n in w digits after it were written from at on, and the place after them
 pub record WroteAfter (d : List ℕ) (at : ℕ) (word : List ℕ) (w n : ℕ) (e : List ℕ) (after : ℕ) : Type 0 where

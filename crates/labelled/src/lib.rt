@@ -5,26 +5,18 @@
 ghost use Rattle.std.specs.Prelude.{◌≡◌, ◌+◌, ◌^◌, ◌≤◌, ◌<◌, length};
 ghost use Rattle.labelled.specs.Labelled.{field_after, WroteAfter};
 
-use decimal::DigitsRead;
-
-#[derive(Clone, Copy)]
-pub enum FieldRead {
-    Field(u32),
-    NoField,
-}
-
 // Reads the width digits that stand after word, which stands at the place at.
-pub fn field_after(s: &[u8], at: usize, word: &[u8], width: usize) -> FieldRead
+pub fn field_after(s: &[u8], at: usize, word: &[u8], width: usize) -> Option<u32>
     requires { (0 < length word.now) × (0 < width) × (width ≤ 8) }
     ensures { result ≡ field_after s.now at word.now width }
 {
-    if field::has_at(s, at, word) {
-        let DigitsRead::Value(v) = decimal::digits_at(s, at + word.len(), width) else {
-            return FieldRead::NoField;
-        };
-        return FieldRead::Field(v as u32);
+    if !field::has_at(s, at, word) {
+        return None;
     }
-    FieldRead::NoField
+    let Some(v) = decimal::digits_at(s, at + word.len(), width) else {
+        return None;
+    };
+    Some(v as u32)
 }
 
 // Writes word and after it n as width digits, and gives the place after them.

@@ -15,13 +15,11 @@ use Rattle.decimal.proofs.Laws.{length_digits}
 use Rattle.calendar.specs.Calendar.{real_date, real_time}
 use Rattle.calendar.proofs.Laws.{date_lt, time_lt}
 use Rattle.labelled.specs.Labelled.{field_after, WroteAfter}
-use Rattle.labelled.specs.declared.FieldRead.{FieldRead}
-use Rattle.labelled.specs.declared.FieldRead.TheVariants.{Field, NoField}
-use Rattle.labelled.proofs.Fields.{not_field, field_same, test_on, field_on, field_done, field_back, fields}
+use Rattle.labelled.proofs.Fields.{not_field, field_same, pair_same, test_on, field_on, field_done, field_back, fields}
 use Rattle.moment.specs.Moment.{real_moment, time_bytes, moment_bytes}
-use Rattle.moment.specs.Reading.{time_after, moment_after, on_moment}
-use Rattle.moment.specs.declared.MomentRead.{MomentRead}
-use Rattle.moment.specs.declared.MomentRead.TheVariants.{Moment, NoMoment}
+use Rattle.moment.specs.Reading.{time_after, moment_after}
+use Rattle.std.specs.declared.option.Option.{Option}
+use Rattle.std.specs.declared.option.Option.TheVariants.{Some, None}
 
 -- a real date has at most eight digits, and a real time at most six
 pub real_lt : (date time : ℕ) → real_moment date time ≡ true → (date < 100000000) × (time < 1000000)
@@ -51,7 +49,7 @@ joined word hour minute second time ys (h, m, x) =
     (time_fields word (digits 2 (time / 10000)) (ascii ":") (digits 2 (time / 100 % 100)) (ascii ":") (digits 2 (time % 100)) ys)
 
 module _ (s : List ℕ) (at : ℕ) (word : List ℕ) where
-  pub time_done : (time : ℕ) (ys : List ℕ) → time < 1000000 → drop at s ≡ word ++ (time_bytes time ++ ys) → time_after s at word ≡ Field time
+  pub time_done : (time : ℕ) (ys : List ℕ) → time < 1000000 → drop at s ≡ word ++ (time_bytes time ++ ys) → time_after s at word ≡ Some time
   unfolding time_after
   time_done time ys small h =
       let hour = time / 10000 in
@@ -71,14 +69,14 @@ module _ (s : List ℕ) (at : ℕ) (word : List ℕ) where
         e,
       )
 
-  pub time_back : (time next : ℕ) → next ≡ at + length word + 8 → time_after s at word ≡ Field time
+  pub time_back : (time next : ℕ) → next ≡ at + length word + 8 → time_after s at word ≡ Some time
       → (drop at s ≡ word ++ (time_bytes time ++ drop next s)) × (time < 1000000)
   unfolding time_after
   time_back time next k h =
-      let r = Field time in
-      let (hour, p, h1) = field_on NoField r not_field (field_after s at word 2) _ h in
-      let (minute, q, h2) = field_on NoField r not_field (field_after s (at + length word + 2) (ascii ":") 2) _ h1 in
-      let (second, u, h3) = field_on NoField r not_field (field_after s (at + length word + 2 + 3) (ascii ":") 2) _ h2 in
+      let r = Some time in
+      let (hour, p, h1) = field_on None r not_field (field_after s at word 2) _ h in
+      let (minute, q, h2) = field_on None r not_field (field_after s (at + length word + 2) (ascii ":") 2) _ h1 in
+      let (second, u, h3) = field_on None r not_field (field_after s (at + length word + 2 + 3) (ascii ":") 2) _ h2 in
       let (d0, b0) = field_back s at word 2 hour (at + length word + 2) refl p in
       let (d1, b1) = field_back s (at + length word + 2) (ascii ":") 2 minute (at + length word + 2 + 3) (omega arith) q in
       let (d2, b2) = field_back s (at + length word + 2 + 3) (ascii ":") 2 second next (omega arith) u in
@@ -91,19 +89,13 @@ module _ (s : List ℕ) (at : ℕ) (word : List ℕ) where
 three_fields : (word a b c ys : List ℕ) → word ++ ((a ++ b ++ c) ++ ys) ≡ word ++ (a ++ (b ++ (c ++ ys)))
 three_fields word a b c ys = simp append_assoc
 
--- a reader that went on with a moment
-pub moment_on : {R : Type 0} (stop r : R) → (stop ≡ r → ⊥) → (d : MomentRead) (go : ℕ → ℕ → R) → on_moment d stop go ≡ r
-    → (date : ℕ) × (time : ℕ) × (d ≡ Moment date time) × (go date time ≡ r)
-moment_on stop r never (Moment date time) go h = (date, time, refl, h)
-moment_on stop r never NoMoment go h = absurd (never h)
-
 module _ (s : List ℕ) (at : ℕ) (word : List ℕ) where
   moment_fields : (date time : ℕ) (ys : List ℕ) → word ++ (moment_bytes date time ++ ys) ≡ word ++ (digits 8 date ++ (ascii " " ++ (time_bytes time ++ ys)))
   unfolding moment_bytes
   moment_fields date time ys = three_fields word (digits 8 date) (ascii " ") (time_bytes time) ys
 
   pub moment_done : (date time : ℕ) (ys : List ℕ) → real_moment date time ≡ true → drop at s ≡ word ++ (moment_bytes date time ++ ys)
-      → moment_after s at word ≡ Moment date time
+      → moment_after s at word ≡ Some (date, time)
   unfolding moment_after
   moment_done date time ys real h =
       let (small-date, small-time) = real_lt date time real in
@@ -113,19 +105,15 @@ module _ (s : List ℕ) (at : ℕ) (word : List ℕ) where
       let d2 = rest_is s k (digits 8 date) 8 (length_digits 8 date) _ (k + 8) refl d1 in
       rw (field_done s at word 8 date _ small-date d0, time_done s (k + 8) (ascii " ") time ys small-time d2, real)
 
-  not_moment : {date time : ℕ} → NoMoment ≡ Moment date time → ⊥
-  not_moment h = let z : ◌≡◌ {A = ℕ} 0 1 = cc in omega arith
-
-  pub moment_back : (date time next : ℕ) → next ≡ at + length word + 17 → moment_after s at word ≡ Moment date time
+  pub moment_back : (date time next : ℕ) → next ≡ at + length word + 17 → moment_after s at word ≡ Some (date, time)
       → (drop at s ≡ word ++ (moment_bytes date time ++ drop next s)) × (real_moment date time ≡ true)
   unfolding moment_after
   moment_back date time next k h =
-      let r = Moment date time in
-      let (d, p, h1) = field_on NoMoment r not_moment (field_after s at word 8) _ h in
-      let (t, q, h2) = field_on NoMoment r not_moment (time_after s (at + length word + 8) (ascii " ")) _ h1 in
-      let (real, h3) = test_on NoMoment r not_moment (real_moment d t) _ h2 in
-      let e : d ≡ date = cc in
-      let f : t ≡ time = cc in
+      let r : Option (ℕ × ℕ) = Some (date, time) in
+      let (d, p, h1) = field_on None r not_field (field_after s at word 8) _ h in
+      let (t, q, h2) = field_on None r not_field (time_after s (at + length word + 8) (ascii " ")) _ h1 in
+      let (real, h3) = test_on None r not_field (real_moment d t) _ h2 in
+      let (e, f) = pair_same h3 in
       let d0 = (field_back s at word 8 d (at + length word + 8) refl p).0 in
       let d1 = (time_back s (at + length word + 8) (ascii " ") t next (omega arith) q).0 in
       subst₂ (λ (d t : ℕ). (drop at s ≡ word ++ (moment_bytes d t ++ drop next s)) × (real_moment d t ≡ true)) e f
@@ -144,23 +132,14 @@ pub wrote_moment : (d f e : List ℕ) (at a r : ℕ) (word : List ℕ) (date tim
 unfolding moment_bytes
 wrote_moment d f e at a r word date time u v = as_bytes (then u.wrote v) (simp append_assoc)
 
--- ---- where a moment was read the word goes on, and where it was not the word stops
-
-module _ (R : Type 0) (x stop : R) where
-  pub moment_read : (go : ℕ → ℕ → R) (d e : MomentRead) (date time : ℕ) → d ≡ e → d ≡ Moment date time → x ≡ go date time → x ≡ on_moment e stop go
-  moment_read go d e date time p q h = rw (sym p ∙ q) h
-
-  pub no_moment : (go : ℕ → ℕ → R) (d e : MomentRead) → d ≡ e → d ≡ NoMoment → x ≡ stop → x ≡ on_moment e stop go
-  no_moment go d e p q h = rw (sym p ∙ q) h
-
-pub time_of : (r : FieldRead) (t u : ℕ) → r ≡ Field t → t ≡ u → r ≡ Field u
-time_of r t u p q = p ∙ ap Field q
+pub time_of : (r : Option ℕ) (t u : ℕ) → r ≡ Some t → t ≡ u → r ≡ Some u
+time_of r t u p q = p ∙ ap Some q
 
 -- where a moment was read, it ends within the bytes
-pub moment_room : (s : List ℕ) (at : ℕ) (word : List ℕ) (d : MomentRead) (date time : ℕ) → 0 < length word → d ≡ moment_after s at word
-    → d ≡ Moment date time → at + length word + 17 ≤ length s
+pub moment_room : (s : List ℕ) (at : ℕ) (word : List ℕ) (d : Option (ℕ × ℕ)) (date time : ℕ) → 0 < length word → d ≡ moment_after s at word
+    → d ≡ Some (date, time) → at + length word + 17 ≤ length s
 moment_room s at word d date time some p q =
     let k = at + length word + 17 in
     omega (arith, simp (length-append, length-drop, length_moment) at (ap length (moment_back s at word date time k refl (sym p ∙ q)).0))
 
-pub ruleset moments = (fields, moment_read, no_moment, time_of)
+pub ruleset moments = (fields, time_of)

@@ -7,14 +7,6 @@ ghost use Rattle.field.specs.Part.{Wrote};
 ghost use Rattle.moment.specs.Moment.{real_moment, time_bytes, moment_bytes, at_or_after};
 ghost use Rattle.moment.specs.Reading.{time_after, moment_after};
 
-use labelled::FieldRead;
-
-#[derive(Clone, Copy)]
-pub enum MomentRead {
-    Moment(u32, u32),
-    NoMoment,
-}
-
 pub fn is_real(date: u32, time: u32) -> bool
     ensures { result ≡ real_moment date time }
 {
@@ -42,38 +34,39 @@ fn hhmmss(hour: u32, minute: u32, second: u32) -> u32
 }
 
 // Reads dd:dd:dd after word, which stands at the place at, as hhmmss.
-pub fn time_after(s: &[u8], at: usize, word: &[u8]) -> FieldRead
+pub fn time_after(s: &[u8], at: usize, word: &[u8]) -> Option<u32>
     requires { 0 < length word.now }
     ensures { result ≡ time_after s.now at word.now }
 {
-    let FieldRead::Field(hour) = labelled::field_after(s, at, word, 2) else {
-        return FieldRead::NoField;
+    let Some(hour) = labelled::field_after(s, at, word, 2) else {
+        return None;
     };
     let after_hour = at + word.len() + 2;
-    let FieldRead::Field(minute) = labelled::field_after(s, after_hour, b":", 2) else {
-        return FieldRead::NoField;
+    let Some(minute) = labelled::field_after(s, after_hour, b":", 2) else {
+        return None;
     };
-    let FieldRead::Field(second) = labelled::field_after(s, after_hour + 3, b":", 2) else {
-        return FieldRead::NoField;
+    let Some(second) = labelled::field_after(s, after_hour + 3, b":", 2) else {
+        return None;
     };
-    FieldRead::Field(hhmmss(hour, minute, second))
+    Some(hhmmss(hour, minute, second))
 }
 
 // Reads a real date and time after word, which stands at the place at.
-pub fn moment_after(s: &[u8], at: usize, word: &[u8]) -> MomentRead
+pub fn moment_after(s: &[u8], at: usize, word: &[u8]) -> Option<(u32, u32)>
     requires { 0 < length word.now }
     ensures { result ≡ moment_after s.now at word.now }
 {
-    let FieldRead::Field(date) = labelled::field_after(s, at, word, 8) else {
-        return MomentRead::NoMoment;
+    let Some(date) = labelled::field_after(s, at, word, 8) else {
+        return None;
     };
-    let FieldRead::Field(time) = time_after(s, at + word.len() + 8, b" ") else {
-        return MomentRead::NoMoment;
+    let Some(time) = time_after(s, at + word.len() + 8, b" ") else {
+        return None;
     };
     if is_real(date, time) {
-        return MomentRead::Moment(date, time);
+        Some((date, time))
+    } else {
+        None
     }
-    MomentRead::NoMoment
 }
 
 // Writes word and after it a time as dd:dd:dd, and gives the place after it.

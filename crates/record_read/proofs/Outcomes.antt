@@ -20,9 +20,10 @@ use Rattle.labelled.specs.Labelled.{field_after}
 use Rattle.record_read.specs.Reading.{error_read, outcome_read}
 use Rattle.record.specs.declared.Outcome.{Outcome}
 use Rattle.record.specs.declared.Outcome.TheVariants.{Processed, Error}
-use Rattle.record_read.specs.declared.OutcomeRead.TheVariants.{Opens, NoOutcome}
 use Rattle.record.proofs.Lengths.{outcome_length}
-use Rattle.labelled.proofs.Fields.{test_on, field_on, word_back, field_done, field_back}
+use Rattle.labelled.proofs.Fields.{not_field, pair_same, test_on, field_on, word_back, field_done, field_back}
+use Rattle.std.specs.declared.option.Option.{Option}
+use Rattle.std.specs.declared.option.Option.TheVariants.{Some, None}
 
 -- the two words differ in their second byte
 not_processed : (s : List ℕ) (at : ℕ) (ys : List ℕ) → drop at s ≡ ascii " ERROR " ++ ys → has_at s at (ascii " PROCESSED \"") ≡ false
@@ -30,7 +31,7 @@ unfolding has_at same part
 not_processed s at ys h = rw h
 
 pub outcome_done : (s : List ℕ) (at : ℕ) (o : Outcome) (ys : List ℕ) → is_outcome o ≡ true → drop at s ≡ outcome_bytes o ++ ys
-    → outcome_read s at ≡ Opens o (at + outcome_length o)
+    → outcome_read s at ≡ Some (o, at + outcome_length o)
 unfolding outcome_read error_read
 outcome_done s at Processed ys ok h = rw (then_has s at (ascii " PROCESSED \"") ys h)
 outcome_done s at (Error class code) ys ok h =
@@ -54,22 +55,18 @@ pub record OutcomeIs (s : List ℕ) (at : ℕ) (o : Outcome) (start : ℕ) : Typ
   pub ok : is_outcome o ≡ true
   pub next : start ≡ at + outcome_length o
 
-found : {p o : Outcome} {k start : ℕ} (s : List ℕ) (at : ℕ) → OutcomeIs s at p k → Opens p k ≡ Opens o start → OutcomeIs s at o start
+found : {p o : Outcome} {k start : ℕ} (s : List ℕ) (at : ℕ) → OutcomeIs s at p k → ◌≡◌ {A = Option (Outcome × ℕ)} (Some (p, k)) (Some (o, start)) → OutcomeIs s at o start
 found {p} {o} {k} {start} s at i h =
-    let e : p ≡ o = cc in
-    let f : k ≡ start = cc in
+    let (e, f) = pair_same h in
     subst (λ (q : Outcome). OutcomeIs s at q start) e (subst (λ (m : ℕ). OutcomeIs s at p m) f i)
 
-nothing : {o : Outcome} {start : ℕ} → NoOutcome ≡ Opens o start → ⊥
-nothing h = let z : ◌≡◌ {A = ℕ} 0 1 = cc in omega arith
-
-error_back : (s : List ℕ) (at : ℕ) (o : Outcome) (start : ℕ) → error_read s at ≡ Opens o start → OutcomeIs s at o start
+error_back : (s : List ℕ) (at : ℕ) (o : Outcome) (start : ℕ) → error_read s at ≡ Some (o, start) → OutcomeIs s at o start
 unfolding error_read
 error_back s at o start h =
-    let r = Opens o start in
-    let (class, p, h1) = field_on NoOutcome r nothing (field_after s at (ascii " ERROR ") 2) _ h in
-    let (code, q, h2) = field_on NoOutcome r nothing (field_after s (at + 9) (ascii " ") 8) _ h1 in
-    let (t, h3) = test_on NoOutcome r nothing (has_at s (at + 18) (ascii " \"")) _ h2 in
+    let r : Option (Outcome × ℕ) = Some (o, start) in
+    let (class, p, h1) = field_on None r not_field (field_after s at (ascii " ERROR ") 2) _ h in
+    let (code, q, h2) = field_on None r not_field (field_after s (at + 9) (ascii " ") 8) _ h1 in
+    let (t, h3) = test_on None r not_field (has_at s (at + 18) (ascii " \"")) _ h2 in
     let (d0, small_class) = field_back s at (ascii " ERROR ") 2 class (at + 9) (omega arith) p in
     let (d1, small_code) = field_back s (at + 9) (ascii " ") 8 code (at + 18) (omega arith) q in
     let d2 : drop (at + 18) s ≡ ascii " \"" ++ drop (at + 20) s = word_back s (at + 18) (ascii " \"") (at + 20) (omega arith) t in
@@ -81,11 +78,11 @@ error_back s at o start h =
     })
     h3
 
-pub outcome_back : (s : List ℕ) (at : ℕ) (o : Outcome) (start : ℕ) → outcome_read s at ≡ Opens o start → OutcomeIs s at o start
+pub outcome_back : (s : List ℕ) (at : ℕ) (o : Outcome) (start : ℕ) → outcome_read s at ≡ Some (o, start) → OutcomeIs s at o start
 unfolding outcome_read
 outcome_back s at o start h = go (has_at s at (ascii " PROCESSED \"")) refl h
   where
-    go : (b : Bool) → has_at s at (ascii " PROCESSED \"") ≡ b → cond b (Opens Processed (at + 12)) (error_read s at) ≡ Opens o start
+    go : (b : Bool) → has_at s at (ascii " PROCESSED \"") ≡ b → cond b (Some (Processed, at + 12)) (error_read s at) ≡ Some (o, start)
         → OutcomeIs s at o start
     go true t e = found s at (record { bytes = word_back s at (ascii " PROCESSED \"") (at + 12) refl t; ok = refl; next = refl }) e
     go false t e = error_back s at o start e

@@ -21,14 +21,16 @@ use Rattle.field.proofs.Same.{then_has, has_then}
 use Rattle.decimal.specs.Digits.{plain_width}
 use Rattle.moment.specs.Moment.{real_moment}
 use Rattle.record.specs.Record.{Content, in_range, permitted, record_bytes, fixed_length}
-use Rattle.record_read.specs.Reading.{on_record, record_at, record_read, content_of, with_text}
+use Rattle.labelled.specs.Labelled.{on_pair}
+use Rattle.labelled.proofs.Fields.{pair_same}
+use Rattle.record_read.specs.Reading.{record_at, record_read, content_of, with_text}
 use Rattle.record.specs.Writing.{write_refusal, written, written_bytes}
 use Rattle.record_read.specs.declared.Record.{Record}
-use Rattle.record_read.specs.declared.FirstRecord.{FirstRecord}
-use Rattle.record_read.specs.declared.FirstRecord.TheVariants.{Ends, NoRecord}
 use Rattle.record.proofs.Lengths.{length_record}
 use Rattle.record.proofs.Writes.{not_refused}
 use Rattle.record_read.proofs.Standing.{read_as, record_done, content_same, record_back, Was}
+use Rattle.std.specs.declared.option.Option.{Option}
+use Rattle.std.specs.declared.option.Option.TheVariants.{Some, None}
 
 -- ---- the statements
 
@@ -82,7 +84,7 @@ Begins limit s at c e = (permitted limit c ≡ true) × (has_at s at (record_byt
 abbrev pub AtExactly : Type 0
 AtExactly =
     (limit : ℕ) → limit < 100000000 → (s : List ℕ) (at : ℕ) (c : Content) (e : ℕ)
-    → ((r : Record) × (record_at limit s at ≡ Ends r e) × (content_of s r ≡ c)) ↔ Begins limit s at c e
+    → ((r : Record) × (record_at limit s at ≡ Some (r, e)) × (content_of s r ≡ c)) ↔ Begins limit s at c e
 
 -- so bytes begin with one record at most
 abbrev pub OneBegins : Type 0
@@ -99,11 +101,11 @@ at_exactly limit most s at c e = (
       subst (λ (d : Content). Begins limit s at d e) same (was.ok, then_has s at (record_bytes (content_of s r)) (drop e s) was.bytes, was.next),
   λ (ok, there, last).
       let h = has_then s at (record_bytes c) there in
-      (read_as at c, record_done s at c _ h limit most ok ∙ ap (Ends (read_as at c)) (sym last), content_same s at c _ h),
+      (read_as at c, record_done s at c _ h limit most ok ∙ ap (λ (k : ℕ). Some (read_as at c, k)) (sym last), content_same s at c _ h),
 )
 
-same_end : {q r : Record} {e f : ℕ} → Ends q e ≡ Ends r f → (q ≡ r) × (e ≡ f)
-same_end h = (cc, cc)
+same_end : {q r : Record} {e f : ℕ} → ◌≡◌ {A = Option (Record × ℕ)} (Some (q, e)) (Some (r, f)) → (q ≡ r) × (e ≡ f)
+same_end = pair_same
 
 pub one_begins : OneBegins
 one_begins limit most s at c d e f p q =
@@ -148,13 +150,13 @@ pub whole : (limit : ℕ) (s : List ℕ) (r : Record) → record_read limit s �
 unfolding record_read
 whole limit s r h = go (record_at limit s 0) refl h
   where
-    go : (d : FirstRecord) → record_at limit s 0 ≡ d
-        → on_record d (refused not_a_record 0) (λ q e. cond (eqb e (length s)) (done q) (refused not_a_record 0)) ≡ done r → Was limit s 0 r (length s)
-    go (Ends q e) p f =
+    go : (d : Option (Record × ℕ)) → record_at limit s 0 ≡ d
+        → on_pair d (refused not_a_record 0) (λ q e. cond (eqb e (length s)) (done q) (refused not_a_record 0)) ≡ done r → Was limit s 0 r (length s)
+    go (Some (q, e)) p f =
         let (t, same) = passed (eqb e (length s)) _ _ _ f in
         let is : q ≡ r = cc in
-        record_back limit s 0 r (length s) (p ∙ ap₂ Ends is (eqb-true e (length s) t))
-    go NoRecord p f = absurd (refused_not_done f)
+        record_back limit s 0 r (length s) (p ∙ ap₂ (λ (x : Record) (k : ℕ). Some (x, k)) is (eqb-true e (length s) t))
+    go None p f = absurd (refused_not_done f)
 
 pub whole_bytes : (limit : ℕ) (s : List ℕ) (r : Record) → Was limit s 0 r (length s) → s ≡ record_bytes (content_of s r)
 whole_bytes limit s r was = was.bytes ∙ simp (drop-length, append-nil)
@@ -213,7 +215,7 @@ only_seven limit s n p h = go (record_at limit s 0) h
     seven true r f = absurd (refused_not_done (sym f))
     seven false r f = (cc, cc)
 
-    go : (d : FirstRecord) → on_record d (refused not_a_record 0) (λ q e. cond (eqb e (length s)) (done q) (refused not_a_record 0)) ≡ refused n p
+    go : (d : Option (Record × ℕ)) → on_pair d (refused not_a_record 0) (λ q e. cond (eqb e (length s)) (done q) (refused not_a_record 0)) ≡ refused n p
         → (n ≡ not_a_record) × (p ≡ 0)
-    go (Ends q e) f = seven (eqb e (length s)) q f
-    go NoRecord f = (cc, cc)
+    go (Some (q, e)) f = seven (eqb e (length s)) q f
+    go None f = (cc, cc)

@@ -18,29 +18,26 @@ use Rattle.decimal.proofs.PlainLaws.{plain_some, plain_fits, plain_le}
 use Rattle.scan.specs.Kinds.{is_digit, is_text_byte}
 use Rattle.scan.specs.Run.{run_end}
 use Rattle.labelled.specs.Labelled.{field_after}
-use Rattle.labelled.specs.declared.FieldRead.TheVariants.{Field, NoField}
-use Rattle.labelled.proofs.Fields.{not_field, field_same, test_on, field_on, word_back, field_done, field_back}
+use Rattle.labelled.proofs.Fields.{not_field, field_same, pair_same, test_on, field_on, pair_on, word_back, field_done, field_back}
 use Rattle.moment.specs.Moment.{real_moment, moment_bytes}
 use Rattle.moment.specs.Reading.{moment_after}
-use Rattle.moment.proofs.Moments.{length_moment, moment_on, moment_done, moment_back}
+use Rattle.moment.proofs.Moments.{length_moment, moment_done, moment_back}
 use Rattle.record.specs.Record.{Content, content, in_range, permitted, outcome_bytes, record_bytes}
 use Rattle.record.specs.declared.Outcome.{Outcome}
 use Rattle.record.specs.declared.Outcome.TheVariants.{Processed, Error}
 use Rattle.record.proofs.Lengths.{outcome_length, length_outcome, length_plain, length_fields}
 use Rattle.record.proofs.Writes.{ranges, short_text}
-use Rattle.record_read.specs.Reading.{on_outcome, number_in, outcome_read, rest_read, record_at, content_of}
-use Rattle.record_read.specs.declared.OutcomeRead.{OutcomeRead}
-use Rattle.record_read.specs.declared.OutcomeRead.TheVariants.{Opens, NoOutcome}
+use Rattle.record_read.specs.Reading.{number_in, outcome_read, rest_read, record_at, content_of}
 use Rattle.record_read.specs.declared.Record.{Record}
-use Rattle.record_read.specs.declared.FirstRecord.{FirstRecord}
-use Rattle.record_read.specs.declared.FirstRecord.TheVariants.{Ends, NoRecord}
 use Rattle.record_read.proofs.Outcomes.{outcome_done, outcome_back, OutcomeIs}
 use Rattle.record_read.proofs.Texts.{text_end, TextIs, text_back, digits_end}
+use Rattle.std.specs.declared.option.Option.{Option}
+use Rattle.std.specs.declared.option.Option.TheVariants.{Some, None}
 
 -- ---- the number
 
 number_done : (limit : ℕ) (s : List ℕ) (at n : ℕ) (ys : List ℕ) → 1 ≤ n → n ≤ limit → limit < 100000000
-    → drop at s ≡ ascii "COMMAND " ++ (plain n ++ 32 ∷ ys) → number_in limit s at (run_end is_digit s (at + 8) - (at + 8)) ≡ Field n
+    → drop at s ≡ ascii "COMMAND " ++ (plain n ++ 32 ∷ ys) → number_in limit s at (run_end is_digit s (at + 8) - (at + 8)) ≡ Some n
 unfolding number_in plain
 number_done limit s at n ys low high most h =
     let w = plain_width n in
@@ -61,12 +58,12 @@ record NumberIs (limit : ℕ) (s : List ℕ) (at n : ℕ) : Type 0 where
   pub low : leb 1 n ≡ true
   pub high : leb n limit ≡ true
 
-number_in_lem : (limit : ℕ) (s : List ℕ) (at w n : ℕ) → number_in limit s at w ≡ Field n → NumberIs limit s at n
+number_in_lem : (limit : ℕ) (s : List ℕ) (at w n : ℕ) → number_in limit s at w ≡ Some n → NumberIs limit s at n
 unfolding number_in plain
 number_in_lem limit s at w n h =
-    let (wide, h1) = test_on NoField (Field n) not_field (leb 1 w && leb w 8) _ h in
-    let (v, p, h2) = field_on NoField (Field n) not_field (field_after s at (ascii "COMMAND ") w) _ h1 in
-    let (t, h3) = test_on NoField (Field n) not_field (leb 1 v && leb v limit && eqb (plain_width v) w) _ h2 in
+    let (wide, h1) = test_on None (Some n) not_field (leb 1 w && leb w 8) _ h in
+    let (v, p, h2) = field_on None (Some n) not_field (field_after s at (ascii "COMMAND ") w) _ h1 in
+    let (t, h3) = test_on None (Some n) not_field (leb 1 v && leb v limit && eqb (plain_width v) w) _ h2 in
     let range = and_left (leb 1 v && leb v limit) (eqb (plain_width v) w) t in
     let e : plain_width v ≡ w = eqb-true (plain_width v) w (and_right (leb 1 v && leb v limit) (eqb (plain_width v) w) t) in
     let b = field_back s at (ascii "COMMAND ") w v (at + 8 + w) refl p in
@@ -84,7 +81,7 @@ taken n o start length date time = record { number = record { 0 = n }; outcome =
 
 rest_done : (s : List ℕ) (n : ℕ) (o : Outcome) (start end date time : ℕ) (ys : List ℕ) → end - start ≤ text_bytes → real_moment date time ≡ true
     → drop end s ≡ ascii "\" " ++ (moment_bytes date time ++ (ascii ";\r\n" ++ ys))
-    → rest_read s n o start end ≡ Ends (taken n o start (end - start) date time) (end + 22)
+    → rest_read s n o start end ≡ Some (taken n o start (end - start) date time, end + 22)
 unfolding rest_read taken
 rest_done s n o start end date time ys small real h =
     let d1 = rest_is s end (ascii "\" ") 2 refl _ (end + 2) refl h in
@@ -102,17 +99,14 @@ record RestIs (s : List ℕ) (n : ℕ) (o : Outcome) (start end : ℕ) (r : Reco
   pub is : taken n o start (end - start) date time ≡ r
   pub next : end + 22 ≡ e
 
-never : {r : Record} {e : ℕ} → NoRecord ≡ Ends r e → ⊥
-never h = let z : ◌≡◌ {A = ℕ} 0 1 = cc in omega arith
-
-rest_back : (s : List ℕ) (n : ℕ) (o : Outcome) (start end : ℕ) (r : Record) (e : ℕ) → rest_read s n o start end ≡ Ends r e → RestIs s n o start end r e
+rest_back : (s : List ℕ) (n : ℕ) (o : Outcome) (start end : ℕ) (r : Record) (e : ℕ) → rest_read s n o start end ≡ Some (r, e) → RestIs s n o start end r e
 unfolding rest_read taken
 rest_back s n o start end r e h =
-    let x = Ends r e in
-    let (t, h1) = test_on NoRecord x never (leb (end - start) text_bytes) _ h in
-    let (day, clock, p, h2) = moment_on NoRecord x never (moment_after s end (ascii "\" ")) _ h1 in
-    let (q, h3) = test_on NoRecord x never (has_at s (end + 19) (ascii ";\r\n")) _ h2 in
-    let last : end + 22 ≡ e = cc in
+    let x : Option (Record × ℕ) = Some (r, e) in
+    let (t, h1) = test_on None x not_field (leb (end - start) text_bytes) _ h in
+    let (day, clock, p, h2) = pair_on None x not_field (moment_after s end (ascii "\" ")) _ h1 in
+    let (q, h3) = test_on None x not_field (has_at s (end + 19) (ascii ";\r\n")) _ h2 in
+    let (is, last) = pair_same h3 in
     let (d0, real) = moment_back s end (ascii "\" ") day clock (end + 19) (omega arith) p in
     let d1 = word_back s (end + 19) (ascii ";\r\n") e (omega arith) q in
     record {
@@ -122,16 +116,11 @@ rest_back s n o start end r e h =
       bytes = d0 ∙ ap (λ (l : List ℕ). ascii "\" " ++ (moment_bytes day clock ++ l)) d1;
       inside = omega (arith, has_room s (end + 19) (ascii ";\r\n") (omega arith) q);
       real = real;
-      is = cc;
+      is = is;
       next = last;
     }
 
 -- ---- the whole
-
-outcome_on : {r : Record} {e : ℕ} (d : OutcomeRead) (go : Outcome → ℕ → FirstRecord) → on_outcome d NoRecord go ≡ Ends r e
-    → (o : Outcome) × (start : ℕ) × (d ≡ Opens o start) × (go o start ≡ Ends r e)
-outcome_on (Opens o start) go h = (o, start, refl, h)
-outcome_on NoOutcome go h = absurd (never h)
 
 -- an outcome begins with a space
 outcome_first : (o : Outcome) (zs : List ℕ) → (ys : List ℕ) × (outcome_bytes o ++ zs ≡ 32 ∷ ys)
@@ -172,7 +161,7 @@ module _ (s : List ℕ) (at : ℕ) (c : Content) (ys : List ℕ) (h : drop at s 
       let d2 = rest_is s (at + 8) (plain c.number) w (length_plain c.number) _ (at + 8 + w) refl d1 in
       (d2, rest_is s (at + 8 + w) (outcome_bytes o) (outcome_length o) (length_outcome o) _ (at + 8 + w + outcome_length o) refl d2)
 
-  pub record_done : (limit : ℕ) → limit < 100000000 → permitted limit c ≡ true → record_at limit s at ≡ Ends (read_as at c) (at + length (record_bytes c))
+  pub record_done : (limit : ℕ) → limit < 100000000 → permitted limit c ≡ true → record_at limit s at ≡ Some (read_as at c, at + length (record_bytes c))
   unfolding record_at permitted read_as closing start_of
   record_done limit most ok =
       let n = c.number in
@@ -229,12 +218,12 @@ put_together limit s at n o start end r e number outcome text rest =
       inside = rest.inside;
     })
 
-pub record_back : (limit : ℕ) (s : List ℕ) (at : ℕ) (r : Record) (e : ℕ) → record_at limit s at ≡ Ends r e → Was limit s at r e
+pub record_back : (limit : ℕ) (s : List ℕ) (at : ℕ) (r : Record) (e : ℕ) → record_at limit s at ≡ Some (r, e) → Was limit s at r e
 unfolding record_at
 record_back limit s at r e h =
     let w = run_end is_digit s (at + 8) - (at + 8) in
-    let (n, p, h1) = field_on NoRecord (Ends r e) never (number_in limit s at w) _ h in
-    let (o, start, q, h2) = outcome_on (outcome_read s (at + 8 + plain_width n)) _ h1 in
+    let (n, p, h1) = field_on None (Some (r, e)) not_field (number_in limit s at w) _ h in
+    let (o, start, q, h2) = pair_on None (Some (r, e)) not_field (outcome_read s (at + 8 + plain_width n)) _ h1 in
     let end = run_end is_text_byte s start in
     let rest = rest_back s n o start end r e h2 in
     put_together limit s at n o start end r e

@@ -7,8 +7,6 @@ ghost use Rattle.counts.specs.Limits.{commands};
 ghost use Rattle.record_read.specs.Reading.{command_field, number_in, outcome_read, rest_read, record_at, record_read, paper_record_read, text_of};
 
 use counts::{COMMANDS, CommandNumber, Reason, Refusal, TEXT_BYTES};
-use labelled::FieldRead;
-use moment::MomentRead;
 use record::Outcome;
 
 // A record as it was read: its text is the length bytes of the input from start on.
@@ -22,60 +20,42 @@ pub struct Record {
     pub time: u32,
 }
 
-// The record that the bytes from a place on begin with, and the place after it.
-#[derive(Clone, Copy)]
-pub enum FirstRecord {
-    Ends(Record, usize),
-    NoRecord,
-}
-
-// What the readers of a record's fields answer.
-
-#[derive(Clone, Copy)]
-enum CommandRead {
-    Command(CommandNumber),
-    NoCommand,
-}
-
-#[derive(Clone, Copy)]
-enum OutcomeRead {
-    Opens(Outcome, usize),
-    NoOutcome,
-}
-
 // Reads COMMAND and the number in the width digits after it.
-fn number_in(s: &[u8], at: usize, width: usize) -> CommandRead
+fn number_in(s: &[u8], at: usize, width: usize) -> Option<CommandNumber>
     ensures { command_field result ≡ number_in commands s.now at width }
 {
-    if (1 <= width) & (width <= 8) {
-        let FieldRead::Field(n) = labelled::field_after(s, at, b"COMMAND ", width) else {
-            return CommandRead::NoCommand;
-        };
-        if (1 <= n) & (n <= COMMANDS) & (decimal::plain_width(n as u64) == width) {
-            return CommandRead::Command(CommandNumber(n));
-        }
+    if !((1 <= width) & (width <= 8)) {
+        return None;
     }
-    CommandRead::NoCommand
+    let Some(n) = labelled::field_after(s, at, b"COMMAND ", width) else {
+        return None;
+    };
+    if (1 <= n) & (n <= COMMANDS) & (decimal::plain_width(u64::from(n)) == width) {
+        Some(CommandNumber(n))
+    } else {
+        None
+    }
 }
 
 // Reads PROCESSED, or ERROR with class and code, and the quote that opens the text.
-fn outcome_at(s: &[u8], at: usize) -> OutcomeRead
+fn outcome_at(s: &[u8], at: usize) -> Option<(Outcome, usize)>
     requires { at ≤ length s.now + 24 }
     ensures { result ≡ outcome_read s.now at }
 {
     if field::has_at(s, at, b" PROCESSED \"") {
-        return OutcomeRead::Opens(Outcome::Processed, at + 12);
+        return Some((Outcome::Processed, at + 12));
     }
-    let FieldRead::Field(class) = labelled::field_after(s, at, b" ERROR ", 2) else {
-        return OutcomeRead::NoOutcome;
+    let Some(class) = labelled::field_after(s, at, b" ERROR ", 2) else {
+        return None;
     };
-    let FieldRead::Field(code) = labelled::field_after(s, at + 9, b" ", 8) else {
-        return OutcomeRead::NoOutcome;
+    let Some(code) = labelled::field_after(s, at + 9, b" ", 8) else {
+        return None;
     };
     if field::has_at(s, at + 18, b" \"") {
-        return OutcomeRead::Opens(Outcome::Error(class, code), at + 20);
+        Some((Outcome::Error(class, code), at + 20))
+    } else {
+        None
     }
-    OutcomeRead::NoOutcome
 }
 
 // Reads what follows the text, which runs from start to end.
@@ -85,44 +65,45 @@ fn rest_at(
     outcome: Outcome,
     start: usize,
     end: usize,
-) -> FirstRecord
+) -> Option<(Record, usize)>
     requires { start ≤ end }
     ensures { result ≡ rest_read s.now number.0 outcome start end }
 {
     let length = end - start;
-    if length <= TEXT_BYTES {
-        let MomentRead::Moment(date, time) = moment::moment_after(s, end, b"\" ") else {
-            return FirstRecord::NoRecord;
-        };
-        if field::has_at(s, end + 19, b";\r\n") {
-            let record = Record {
-                number,
-                outcome,
-                start,
-                length,
-                date,
-                time,
-            };
-            return FirstRecord::Ends(record, end + 22);
-        }
+    if TEXT_BYTES < length {
+        return None;
     }
-    FirstRecord::NoRecord
+    let Some((date, time)) = moment::moment_after(s, end, b"\" ") else {
+        return None;
+    };
+    if !field::has_at(s, end + 19, b";\r\n") {
+        return None;
+    }
+    let record = Record {
+        number,
+        outcome,
+        start,
+        length,
+        date,
+        time,
+    };
+    Some((record, end + 22))
 }
 
-// Reads the record that the bytes from at on begin with.
-pub fn record_at(bytes: &[u8], at: usize) -> FirstRecord
+// The record that the bytes from at on begin with, and the place after it.
+pub fn record_at(bytes: &[u8], at: usize) -> Option<(Record, usize)>
     requires { at ≤ length bytes.now }
     ensures { result ≡ record_at commands bytes.now at }
 {
     let digits = at + 8;
     let width = scan::run_end(bytes, digits, scan::DIGIT) - digits;
-    let CommandRead::Command(number) = number_in(bytes, at, width) else {
-        return FirstRecord::NoRecord;
+    let Some(number) = number_in(bytes, at, width) else {
+        return None;
     };
     let n = number.0;
-    let after_number = digits + decimal::plain_width(n as u64);
-    let OutcomeRead::Opens(outcome, start) = outcome_at(bytes, after_number) else {
-        return FirstRecord::NoRecord;
+    let after_number = digits + decimal::plain_width(u64::from(n));
+    let Some((outcome, start)) = outcome_at(bytes, after_number) else {
+        return None;
     };
     let end = scan::run_end(bytes, start, scan::TEXT);
     rest_at(bytes, number, outcome, start, end)
@@ -132,7 +113,7 @@ pub fn record_at(bytes: &[u8], at: usize) -> FirstRecord
 pub fn read_record(bytes: &[u8]) -> Result<Record, Refusal>
     ensures { paper_record_read result ≡ record_read commands bytes.now }
 {
-    let FirstRecord::Ends(record, end) = record_at(bytes, 0) else {
+    let Some((record, end)) = record_at(bytes, 0) else {
         return Err(Reason::NotARecord.into());
     };
     if end == bytes.len() {

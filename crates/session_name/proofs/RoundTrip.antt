@@ -17,14 +17,14 @@ use Rattle.field.proofs.Parts.{part_is, rest_is, is_part}
 use Rattle.field.proofs.Same.{has_then, then_has}
 use Rattle.decimal.specs.Digits.{digits}
 use Rattle.decimal.specs.Read.{digits_read}
-use Rattle.decimal.specs.declared.DigitsRead.{DigitsRead}
-use Rattle.decimal.specs.declared.DigitsRead.TheVariants.{Value, NotDigits}
 use Rattle.decimal.proofs.Laws.{length_digits}
 use Rattle.decimal.proofs.ReadLaws.{read_done, read_back}
 use Rattle.session_name.specs.Name.{ending, name_of, is_max, no_name, kind_read, number_read, is_framed, name_read, written, written_bytes}
 use Rattle.session_name.specs.declared.Kind.{Kind}
 use Rattle.session_name.specs.declared.Kind.TheVariants.{Request, Response}
 use Rattle.session_name.proofs.Writing.{length_ending, length_name, below_max, was_written, will_be_written}
+use Rattle.std.specs.declared.option.Option.{Option}
+use Rattle.std.specs.declared.option.Option.TheVariants.{Some, None}
 
 -- ---- the statements
 
@@ -105,14 +105,14 @@ module _ (name : List ℕ) where
       go false true e f h = stands Response f h
       go false false e f h = absurd (refused_not_done h)
 
-  number_back : (max n : ℕ) (kind : Kind) (d : DigitsRead) → number_read max name d ≡ done (n, kind)
-      → (d ≡ Value n) × (ltb n max ≡ true) × (has_at name 8 (ending kind) ≡ true)
+  number_back : (max n : ℕ) (kind : Kind) (d : Option ℕ) → number_read max name d ≡ done (n, kind)
+      → (d ≡ Some n) × (ltb n max ≡ true) × (has_at name 8 (ending kind) ≡ true)
   unfolding number_read
-  number_back max n kind (Value m) h =
+  number_back max n kind (Some m) h =
       let t = passed (ltb m max) _ _ _ h in
       let k = kind_back m n kind t.1 in
-      (ap Value k.0, subst (λ (x : ℕ). ltb x max ≡ true) k.0 t.0, k.1)
-  number_back max n kind NotDigits h = absurd (refused_not_done h)
+      (ap Some k.0, subst (λ (x : ℕ). ltb x max ≡ true) k.0 t.0, k.1)
+  number_back max n kind None h = absurd (refused_not_done h)
 
   -- the three parts, one after the other, are the whole of the 12 bytes
   whole : (n : ℕ) (kind : Kind) → length name ≡ 12 → has_at name 0 (ascii "SESS") ≡ true → part name 4 4 ≡ digits 4 n

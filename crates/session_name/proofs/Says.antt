@@ -9,10 +9,10 @@ use Rattle.counts.specs.declared.Refusal.{Refusal}
 use Rattle.counts.specs.declared.SessionNumber.{SessionNumber}
 use Rattle.std.specs.declared.result.Result.{Result as Returned}
 use Rattle.session_name.specs.declared.Kind.{Kind}
-use Rattle.decimal.specs.declared.DigitsRead.{DigitsRead}
 use Rattle.counts.proofs.Results.{paper_says_all}
+use Rattle.std.specs.declared.option.Option.{Option}
 
-pub says_number : (x : Result (ℕ × Kind)) (max : ℕ) (name : List ℕ) (d e : DigitsRead) → x ≡ number_read max name d → d ≡ e
+pub says_number : (x : Result (ℕ × Kind)) (max : ℕ) (name : List ℕ) (d e : Option ℕ) → x ≡ number_read max name d → d ≡ e
     → x ≡ number_read max name e
 says_number x max name d e p q = p ∙ ap (number_read max name) q
 

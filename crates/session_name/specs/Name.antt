@@ -4,8 +4,6 @@ use Rattle.field.specs.Bytes.{ascii, has_at}
 use Rattle.field.specs.Part.{part, put}
 use Rattle.decimal.specs.Digits.{digits}
 use Rattle.decimal.specs.Read.{digits_read}
-use Rattle.decimal.specs.declared.DigitsRead.{DigitsRead}
-use Rattle.decimal.specs.declared.DigitsRead.TheVariants.{Value, NotDigits}
 use Rattle.counts.specs.Limits.{sessions}
 use Rattle.counts.specs.Refusals.{out_of_range, too_little_room}
 use Rattle.counts.specs.Result.{Result, refused, done, paper}
@@ -14,6 +12,8 @@ use Rattle.counts.specs.declared.SessionNumber.{SessionNumber}
 use Rattle.std.specs.declared.result.Result.{Result as Returned}
 use Rattle.session_name.specs.declared.Kind.{Kind}
 use Rattle.session_name.specs.declared.Kind.TheVariants.{Request, Response}
+use Rattle.std.specs.declared.option.Option.{Option}
+use Rattle.std.specs.declared.option.Option.TheVariants.{Some, None}
 
 -- ".REQ or .RSP"
 abbrev pub ending : Kind → List ℕ
@@ -53,9 +53,9 @@ kind_read n name =
     cond (has_at name 8 (ascii ".REQ")) (done (n, Request)) (cond (has_at name 8 (ascii ".RSP")) (done (n, Response)) no_name)
 
 -- the four digits before them, "number below MaxSessions"
-unfoldable pub number_read : ℕ → List ℕ → DigitsRead → Result (ℕ × Kind)
-number_read max name (Value n) = cond (ltb n max) (kind_read n name) no_name
-number_read max name NotDigits = no_name
+unfoldable pub number_read : ℕ → List ℕ → Option ℕ → Result (ℕ × Kind)
+number_read max name (Some n) = cond (ltb n max) (kind_read n name) no_name
+number_read max name None = no_name
 
 -- "the four letters SESS", 12 bytes; MaxSessions first
 abbrev pub is_framed : ℕ → List ℕ → Bool

@@ -7,7 +7,6 @@ ghost use Rattle.field.specs.Part.{Wrote};
 ghost use Rattle.session_name.specs.Name.{ending, name_of, is_max, write_refusal, kind_read, number_read, is_framed, name_read, written, written_bytes, paper_name_read, paper_name_written};
 
 use counts::{Reason, Refusal, SESSIONS, SessionNumber};
-use decimal::DigitsRead;
 
 // A request that a program puts on the share, or the response that the machine puts there.
 #[derive(Clone, Copy, Debug, PartialEq, Eq, Hash)]
@@ -45,11 +44,11 @@ fn is_framed(name: &[u8], max: u32) -> bool
 }
 
 // The rest, once its four digits are read.
-fn number_read(name: &[u8], max: u32, digits: DigitsRead) -> Result<(SessionNumber, Kind), Refusal>
+fn number_read(name: &[u8], max: u32, digits: Option<u64>) -> Result<(SessionNumber, Kind), Refusal>
     ensures { paper_name_read result ≡ number_read max name.now digits }
 {
     match digits {
-        DigitsRead::Value(n) if n < max as u64 => kind_read(name, SessionNumber(n as u32)),
+        Some(n) if n < u64::from(max) => kind_read(name, SessionNumber(n as u32)),
         _ => Err(Reason::OutOfRange.into()),
     }
 }

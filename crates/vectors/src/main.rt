@@ -10,7 +10,6 @@ ghost use Rattle.std.specs.Prelude.{◌≤◌, length, IfOk};
 use counts::{CommandNumber, Refusal, STATEMENTS, SessionNumber, Ticket};
 use grammar::StartClause;
 use job::{JobAnswer, StatementAnswer};
-use labelled::FieldRead;
 use record::Outcome;
 use record_read::RecordRead;
 use report::ReportRead;
@@ -165,10 +164,7 @@ fn run_report(rt: &impl Print, file: &[u8], delimiter: u8) -> io::Result<()> {
 
 // The date that a file has after the word DATE, and 0, which is none, where it has not eight digits there.
 fn date_in(file: &[u8]) -> u32 {
-    let FieldRead::Field(date) = labelled::field_after(file, 0, b"DATE ", 8) else {
-        return 0;
-    };
-    date
+    labelled::field_after(file, 0, b"DATE ", 8).unwrap_or(0)
 }
 
 // Makes a table in which program 1 has placed one command.
@@ -288,11 +284,8 @@ struct Moment {
 
 const NOT_THERE: u32 = 99999999;
 
-fn found(r: FieldRead) -> u32 {
-    let FieldRead::Field(n) = r else {
-        return NOT_THERE;
-    };
-    n
+fn found(r: Option<u32>) -> u32 {
+    r.unwrap_or(NOT_THERE)
 }
 
 fn moment_in(file: &[u8]) -> Moment {

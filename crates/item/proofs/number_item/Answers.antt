@@ -11,19 +11,19 @@ returns-in_default c =
     rw (d.class, d.value, ← c.number_at-number.ensures) c.item_with.ensures
 
 pub overflow_cast-day : goal.overflow_cast-day
-overflow_cast-day c = omega (arith, field_fits 8 _ _ _ c.digits_at.ensures c.in-Value.is)
+overflow_cast-day c = omega (arith, field_fits 8 _ _ _ c.digits_at.ensures c.in-Some.is)
 
 pub returns-then-is_real_date : goal.returns-then-is_real_date
 returns-then-is_real_date c =
     let d = a_date _ _ _ _ c.if-b-a-eq8.true
-    (sym c.digits_at.ensures ∙ c.in-Value.is)
+    (sym c.digits_at.ensures ∙ c.in-Some.is)
     (sym c.is_real_date.ensures ∙ c.if-is_real_date.true) in
     rw (d.class, d.value, ← c.number_at-number.ensures) c.item_with-then-is_real_date.ensures
 
 pub returns-then-b-a-eq8 : goal.returns-then-b-a-eq8
 returns-then-b-a-eq8 c =
     let d = no_date _ _ _ _ c.if-b-a-eq8.true
-    (sym c.digits_at.ensures ∙ c.in-Value.is)
+    (sym c.digits_at.ensures ∙ c.in-Some.is)
     (sym c.is_real_date.ensures ∙ c.if-is_real_date.false) in
     rw (d.class, d.value, ← c.number_at-number.ensures) c.item_with-then-b-a-eq8.ensures
 

@@ -10,10 +10,10 @@ unfolding moment_after
 returns-in_default c = search moments depth 9
 
 pub overflow_add-at : goal.overflow_add-at
-overflow_add-at c = omega (arith, read_room _ _ _ 8 _ _ (omega arith) c.field_after.ensures c.in-Field.is)
+overflow_add-at c = omega (arith, read_room _ _ _ 8 _ _ (omega arith) c.field_after.ensures c.in-Some.is)
 
 pub overflow_add-at-2 : goal.overflow_add-at-2
-overflow_add-at-2 c = omega (arith, read_room _ _ _ 8 _ _ (omega arith) c.field_after.ensures c.in-Field.is)
+overflow_add-at-2 c = omega (arith, read_room _ _ _ 8 _ _ (omega arith) c.field_after.ensures c.in-Some.is)
 
 pub returns-in_default-time_after : goal.returns-in_default-time_after
 unfolding moment_after
@@ -23,6 +23,6 @@ pub returns-then-is_real : goal.returns-then-is_real
 unfolding moment_after
 returns-then-is_real c = search moments depth 9
 
-pub returns : goal.returns
+pub returns-else-is_real : goal.returns-else-is_real
 unfolding moment_after
-returns c = search moments depth 9
+returns-else-is_real c = search moments depth 9

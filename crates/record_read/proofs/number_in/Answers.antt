@@ -6,7 +6,7 @@ use Rattle.record_read.proofs.number_in.Goals as goal
 
 pub field_after-requires : goal.field_after-requires
 field_after-requires c =
-    let width = between 1 8 _ c.if-width.true in
+    let width = between 1 8 _ c.if-not-width.false in
     (search rules, width.0, width.1)
 
 pub returns-in_default : goal.returns-in_default
@@ -21,6 +21,6 @@ pub returns-else-n-plain_width : goal.returns-else-n-plain_width
 unfolding number_in
 returns-else-n-plain_width c = search reads depth 9
 
-pub returns-else-width : goal.returns-else-width
+pub returns-then-not-width : goal.returns-then-not-width
 unfolding number_in
-returns-else-width c = search reads depth 9
+returns-then-not-width c = search reads depth 9

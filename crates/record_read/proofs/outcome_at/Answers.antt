@@ -19,6 +19,6 @@ pub returns-then-has_at-2 : goal.returns-then-has_at-2
 unfolding outcome_read error_read
 returns-then-has_at-2 c = search reads depth 9
 
-pub returns : goal.returns
+pub returns-else-has_at-2 : goal.returns-else-has_at-2
 unfolding outcome_read error_read
-returns c = search reads depth 9
+returns-else-has_at-2 c = search reads depth 9

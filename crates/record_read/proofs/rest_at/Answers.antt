@@ -10,21 +10,21 @@ unfolding rest_read
 returns-in_default c = search reads depth 9
 
 pub overflow_add-end : goal.overflow_add-end
-overflow_add-end c = omega (arith, moment_room _ _ _ _ _ _ (omega arith) c.moment_after.ensures c.in-Moment.is)
+overflow_add-end c = omega (arith, moment_room _ _ _ _ _ _ (omega arith) c.moment_after.ensures c.in-Some.is)
 
 pub overflow_add-result : goal.overflow_add-result
 overflow_add-result c =
     let read = c.moment_after.ensures in
-    omega (arith, moment_room _ _ _ _ _ _ (omega arith) read c.in-Moment.is)
+    omega (arith, moment_room _ _ _ _ _ _ (omega arith) read c.in-Some.is)
 
-pub returns-then-has_at : goal.returns-then-has_at
+pub returns : goal.returns
 unfolding rest_read
-returns-then-has_at c = search reads depth 9
+returns c = search reads depth 9
 
-pub returns-else-has_at : goal.returns-else-has_at
+pub returns-then-not-has_at : goal.returns-then-not-has_at
 unfolding rest_read
-returns-else-has_at c = search reads depth 9
+returns-then-not-has_at c = search reads depth 9
 
-pub returns-else-length-le-TEXT_BYTES : goal.returns-else-length-le-TEXT_BYTES
+pub returns-then-length-gt-TEXT_BYTES : goal.returns-then-length-gt-TEXT_BYTES
 unfolding rest_read
-returns-else-length-le-TEXT_BYTES c = search reads depth 9
+returns-then-length-gt-TEXT_BYTES c = search reads depth 9
