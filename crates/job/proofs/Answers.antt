@@ -8,11 +8,11 @@ use borrow.Author.Tests.{le-leb, lt-leb}
 use lib.Dec.{leb}
 use lib.ListN.{length, drop, set}
 use lib.Seq.{set_split}
+use Rattle.std.specs.declared.option.Option.TheVariants.{Some, None}
 use Rattle.counts.specs.Limits.{file_bytes}
 use Rattle.counts.specs.Refusals.{file_too_long, too_few_places}
 use Rattle.counts.specs.Result.{Result, counted}
 use Rattle.counts.specs.Result.Result.{refused, done}
-use Rattle.counts.specs.declared.Refusal.{Refusal}
 use Rattle.grammar.specs.declared.StartClause.{StartClause}
 use Rattle.grammar.specs.Reading.{OffsetsRead}
 use Rattle.item.specs.Tokens.{next_item}
@@ -21,11 +21,9 @@ use Rattle.item.specs.declared.Item.{Item}
 use Rattle.item.proofs.Lines.{line_tokens}
 use Rattle.item.proofs.Shows.{shows}
 use Rattle.statement.specs.declared.Statement.{Statement}
-use Rattle.statement.specs.declared.StatementRead.{StatementRead}
-use Rattle.statement.specs.declared.StatementRead.TheVariants.{Is, Refused}
+use Rattle.statement.specs.Statement.{StatementRead}
 use Rattle.job.specs.Job.{on_room, read_job, filled}
 use Rattle.job.specs.Loop.{step_read, step_of, after, on_step, job_loop, rest_of, Block, answered, entered}
-use Rattle.job.specs.declared.Step.TheVariants.{On}
 use Rattle.job.specs.declared.StatementsFound.{StatementsFound}
 use Rattle.job.proofs.Loops.{on_token}
 use Rattle.job.proofs.Rest.{room_left, on_taken, on_refused}
@@ -70,18 +68,18 @@ module _ (clause : StartClause) (s table : List ℕ) where
     unfolding job_loop
     first_is = rw (is, tok)
 
-    pub refused_first : (f : Refusal) → r ≡ Refused f → Gives (refused f.number f.place) table
-    refused_first f e =
-        let whole : rest_of clause s 0 0 ≡ refused f.number f.place = first_is ∙ rw e in
-        whole_file short (refused f.number f.place) table (rw whole (refl, refl))
+    pub refused_first : (n p : ℕ) → r ≡ refused n p → Gives (refused n p) table
+    refused_first n p e =
+        let whole : rest_of clause s 0 0 ≡ refused n p = first_is ∙ rw e in
+        whole_file short (refused n p) table (rw whole (refl, refl))
 
-    module _ (x : Statement) (next : ℕ) (e : r ≡ Is x next) where
+    module _ (x : Statement) (next : ℕ) (e : r ≡ done (x, next)) where
       pub first_in_file : t.place < length s
       first_in_file =
           on_token clause s 0 0 t next (sym is ∙ ap step_read e) (next_item s 0) refl (rw tok (shows s 0))
 
       abbrev found : StatementsFound
-      found = record { places = t.place ∷ []; count = 1; then = On next }
+      found = record { places = t.place ∷ []; count = 1; then = Some next }
 
       block : Block clause s 0 0 found
       block = (

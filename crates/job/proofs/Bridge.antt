@@ -7,8 +7,9 @@ use native.Mathlib.Omega.{arith}
 use borrow.Author.Tests.{lt-ltb, le-ltb, eq-eqb, ne_eqb}
 use lib.Dec.{eqb, ltb}
 use lib.ListN.{length, length-append}
+use Rattle.std.specs.declared.option.Option.TheVariants.{Some, None}
 use Rattle.counts.specs.Limits.{statements}
-use Rattle.counts.specs.Refusals.{unexpected, too_many_statements, refusal}
+use Rattle.counts.specs.Refusals.{unexpected, too_many_statements}
 use Rattle.counts.specs.Result.Result.{refused, done as taken}
 use Rattle.grammar.specs.declared.StartClause.{StartClause}
 use Rattle.grammar.specs.Grammar.{Class, class_no, is_class, shape}
@@ -27,14 +28,10 @@ use Rattle.item.specs.Items.{end_no, refusal_no, item_at}
 use Rattle.item.specs.declared.Item.{Item}
 use Rattle.item.proofs.Shows.{Shows, shows, no_token_numbers}
 use Rattle.item.proofs.Shows.Shows.{a_token, the_end, no_token_here as none_there}
-use Rattle.statement.specs.Statement.{read_from}
-use Rattle.statement.specs.declared.StatementRead.{StatementRead}
-use Rattle.statement.specs.declared.StatementRead.TheVariants.{Is, Refused}
+use Rattle.statement.specs.Statement.{StatementRead, read_from}
 use Rattle.statement.proofs.Along.{any_kind}
 use Rattle.statement.proofs.Bridge.{Reads, rest_reads}
-use Rattle.job.specs.Loop.{refuse, step_read, step_into, step_of, after, on_step, job_loop, rest_of}
-use Rattle.job.specs.declared.Step.{Step}
-use Rattle.job.specs.declared.Step.TheVariants.{Over, RefusedAt}
+use Rattle.job.specs.Loop.{Step, refuse, step_read, step_into, step_of, after, on_step, job_loop, rest_of}
 use Rattle.job.proofs.Offsets.{after_none, after_after}
 
 -- at the start only JOB may stand, and later any statement but JOB: the first where it is so, else the second
@@ -66,7 +63,7 @@ opening_is clause os rs t = go os (is_class t.class JOB) refl
 -- what stands between statements, by the tests
 tested : (clause : StartClause) (s : List ℕ) (k : ℕ) (t : Item) (a b f z : Bool) → eqb t.class end_no ≡ a → ltb end_no t.class ≡ b → eqb k statements ≡ f
     → eqb k 0 ≡ z
-    → step_of clause s k t ≡ cond a (cond z (refuse (refusal_no t.class) t) Over)
+    → step_of clause s k t ≡ cond a (cond z (refuse (refusal_no t.class) t) (taken None))
     (cond b (refuse (refusal_no t.class) t) (cond f (refuse too_many_statements t) (step_into clause s k t)))
 unfolding step_of
 tested clause s k t a b f z p q r o = rw (p, q, r, o)
@@ -104,14 +101,14 @@ module _ (clause : StartClause) (s : List ℕ) where
 
   into : (os : List ℕ) (i : ℕ) (u : Placed) → Shows (item_at 0 s i) (item u)
       → step_into clause s (length os) (item_at 0 s i)
-      ≡ by_job os (is_class u.class JOB) (step_read (read_from 0 s (statement clause) tt i)) (RefusedAt (refusal unexpected u.place))
+      ≡ by_job os (is_class u.class JOB) (step_read (read_from 0 s (statement clause) tt i)) (refused unexpected u.place)
   unfolding step_into
   into [] i u (a_token c p n) = rw (any_kind clause s i, c, p)
   into (o ∷ os) i u (a_token c p n) = rw (ne_eqb (length (o ∷ os)) 0 (λ z. omega arith), any_kind clause s i, c, p)
 
   one_step : (os : List ℕ) (i : ℕ) (u : Placed) → length os < statements → Shows (item_at 0 s i) (item u)
       → step_of clause s (length os) (item_at 0 s i)
-      ≡ by_job os (is_class u.class JOB) (step_read (read_from 0 s (statement clause) tt i)) (RefusedAt (refusal unexpected u.place))
+      ≡ by_job os (is_class u.class JOB) (step_read (read_from 0 s (statement clause) tt i)) (refused unexpected u.place)
   one_step os i u l (a_token c p n) =
       tested clause s (length os) (item_at 0 s i) false false false _ (not_end (item_at 0 s i) u.class c) (not_above (item_at 0 s i) u.class c)
       (ne_eqb (length os) statements (λ z. omega arith)) refl
@@ -136,14 +133,14 @@ module _ (clause : StartClause) (s : List ℕ) where
 
     any_goes : (x : StatementRead) → Reads clause s (statement clause) (os ++ (t.place ∷ [])) (t ∷ ts) z x
         → goes (step_read x) ≡ so (step_with (statement clause) (os ++ (t.place ∷ [])) t)
-    any_goes (Is x b) y = after_after os (t.place ∷ []) (job_loop clause s (suc left) (length os + 1) b) ∙ later b y.0 y.1 ∙ sym y.2
-    any_goes (Refused r) y = sym y
+    any_goes (taken (x, b)) y = after_after os (t.place ∷ []) (job_loop clause s (suc left) (length os + 1) b) ∙ later b y.0 y.1 ∙ sym y.2
+    any_goes (refused n p) y = sym y
 
-    stops : goes (RefusedAt (refusal unexpected t.place)) ≡ so (refused_at unexpected t.place)
+    stops : goes (refused unexpected t.place) ≡ so (refused_at unexpected t.place)
     stops = sym (ap (λ (x : State). close x z) (moves_refused clause unexpected t.place ts))
 
     either : (rs : List ℕ) (b : Bool) (x : Step) → goes x ≡ so (step_with (statement clause) (os ++ (t.place ∷ [])) t)
-        → goes (by_job rs b x (RefusedAt (refusal unexpected t.place)))
+        → goes (by_job rs b x (refused unexpected t.place))
         ≡ so (by_job rs b (step_with (statement clause) (os ++ (t.place ∷ [])) t) (refused_at unexpected t.place))
     either [] true x e = e
     either [] false x e = stops
@@ -151,7 +148,7 @@ module _ (clause : StartClause) (s : List ℕ) where
     either (o ∷ rs) false x e = e
 
     goes_on : (i : ℕ) → Tokens s i (t ∷ ts) z
-        → goes (by_job os (is_class t.class JOB) (step_read (read_from 0 s (statement clause) tt i)) (RefusedAt (refusal unexpected t.place)))
+        → goes (by_job os (is_class t.class JOB) (step_read (read_from 0 s (statement clause) tt i)) (refused unexpected t.place))
         ≡ so (move clause (on done os) t)
     goes_on i d =
         either os (is_class t.class JOB) _

@@ -6,14 +6,13 @@ use native.Mathlib.Omega.{arith}
 use borrow.Author.Tests.{le-leb, lt-leb}
 use lib.ListN.{length, take}
 use lib.Seq.{length-take-le, paste}
+use Rattle.std.specs.declared.option.Option.TheVariants.{Some, None}
 use Rattle.counts.specs.Refusals.{too_few_places}
 use Rattle.counts.specs.Result.{Result}
 use Rattle.counts.specs.Result.Result.{refused, done}
-use Rattle.counts.specs.declared.Refusal.{Refusal}
 use Rattle.grammar.specs.declared.StartClause.{StartClause}
 use Rattle.grammar.specs.Reading.{OffsetsRead}
 use Rattle.job.specs.Loop.{after, on_step, rest_of, Block, answered, entered}
-use Rattle.job.specs.declared.Step.TheVariants.{Over, RefusedAt, On}
 use Rattle.job.specs.declared.StatementsFound.{StatementsFound}
 use Rattle.job.proofs.Offsets.{answered_after, taken_fits, refused_stays, none_stay, entered_after}
 
@@ -25,7 +24,7 @@ module _ (clause : StartClause) (s : List ℕ) (k at : ℕ) (f : StatementsFound
   abbrev Gives : Result ℕ → List ℕ → Type 0
   Gives r exit = (r ≡ answered k (length table) whole) × (exit ≡ entered k whole table)
 
-  module _ (v : OffsetsRead) (then : on_step f.then (rest_of clause s (k + f.count)) ≡ v) where
+  module _ (v : OffsetsRead) (then : on_step (done f.then) (rest_of clause s (k + f.count)) ≡ v) where
     split : after (take f.count f.places) v ≡ whole
     split = rw (← then) block.0
 
@@ -47,23 +46,20 @@ module _ (clause : StartClause) (s : List ℕ) (k at : ℕ) (f : StatementsFound
     )
 
   -- the file ends after the block
-  pub over_taken : f.then ≡ Over → k + f.count ≤ length table → (last : List ℕ) → last ≡ paste table k f.places f.count
+  pub over_taken : f.then ≡ None → k + f.count ≤ length table → (last : List ℕ) → last ≡ paste table k f.places f.count
       → Gives (done (k + f.count)) last
   over_taken e fits last is =
       let z : k + f.count + 0 ≡ k + f.count = omega arith in
       let g = takes (done []) (rw e) (k + f.count) table (rw (z, le-leb _ _ fits)) (sym (none_stay (k + f.count) table)) in
       (g.0, is ∙ g.1)
 
-  pub over_crowded : f.then ≡ Over → length table < k + f.count → Gives (refused too_few_places 0) table
+  pub over_crowded : f.then ≡ None → length table < k + f.count → Gives (refused too_few_places 0) table
   over_crowded e l =
       let z : k + f.count + 0 ≡ k + f.count = omega arith in
       refuses (done []) (rw e) too_few_places 0 (rw (z, lt-leb _ _ l))
 
-  pub broken : (r : Refusal) → f.then ≡ RefusedAt r → Gives (refused r.number r.place) table
-  broken r e = refuses (refused r.number r.place) (rw e) r.number r.place refl
-
   -- more stands after it: what was answered, and what was left, by then
-  module _ (next : ℕ) (e : f.then ≡ On next) (answer : Result ℕ) (exit : List ℕ)
+  module _ (next : ℕ) (e : f.then ≡ Some next) (answer : Result ℕ) (exit : List ℕ)
       (is : answer ≡ answered (k + f.count) (length table) (rest_of clause s (k + f.count) next))
       (left : exit ≡ entered (k + f.count) (rest_of clause s (k + f.count) next) table) where
     pub room_left : (all : ℕ) → answer ≡ done all → k + f.count ≤ length table

@@ -6,8 +6,10 @@ use mathlib.Core.List.{List}
 use native.Mathlib.Omega.{arith}
 use borrow.Author.Tests.{eqb-false, ltb-false, ne_eqb}
 use lib.Dec.{eqb, ltb}
+use Rattle.std.specs.declared.option.Option.TheVariants.{Some, None}
 use Rattle.counts.specs.Limits.{statements}
 use Rattle.counts.specs.Refusals.{unexpected, too_many_statements}
+use Rattle.counts.specs.Result.Result.{done}
 use Rattle.grammar.specs.declared.StartClause.{StartClause}
 use Rattle.grammar.specs.Grammar.{class_no}
 use Rattle.grammar.specs.Grammar.Class.{JOB}
@@ -15,7 +17,6 @@ use Rattle.item.specs.Items.{end_no, refusal_no}
 use Rattle.item.specs.declared.Item.{Item}
 use Rattle.statement.specs.Statement.{statement_of}
 use Rattle.job.specs.Loop.{refuse, step_read, step_into, step_of}
-use Rattle.job.specs.declared.Step.TheVariants.{Over}
 
 -- a token is refused with 4
 token_refusal : (n : ℕ) → n < end_no → refusal_no n ≡ unexpected
@@ -44,7 +45,7 @@ module _ (clause : StartClause) (s : List ℕ) (t : Item) where
 
   -- after k statements, by the tests
   pub later : (k : ℕ) → 1 ≤ k
-      → cond (eqb t.class end_no) Over
+      → cond (eqb t.class end_no) (done None)
       (cond (ltb end_no t.class) (refuse (refusal_no t.class) t)
       (cond (eqb k statements) (refuse too_many_statements t)
       (cond (eqb t.class (class_no JOB)) (refuse unexpected t) (step_read (statement_of 0 s clause t)))))

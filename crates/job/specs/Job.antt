@@ -1,14 +1,14 @@
 -- What a job file reads as, into a lent table of offsets (document 01, "The job grammar", "Refusal numbers").
 use Rattle.std.specs.Prelude.{ℕ, cond, List, ◌++◌, leb, length, drop}
+use Rattle.std.specs.declared.result.Result.{Result as Returned}
 use Rattle.counts.specs.Limits.{file_bytes}
 use Rattle.counts.specs.Refusals.{file_too_long, too_few_places}
-use Rattle.counts.specs.Result.{Result, refused_as}
+use Rattle.counts.specs.Result.{Result, paper}
+use Rattle.counts.specs.declared.Refusal.{Refusal}
 use Rattle.counts.specs.Result.Result.{refused, done}
 use Rattle.grammar.specs.declared.StartClause.{StartClause}
 use Rattle.grammar.specs.Reading.{OffsetsRead, read}
 use Rattle.item.specs.Tokens.{line}
-use Rattle.job.specs.declared.JobAnswer.{JobAnswer}
-use Rattle.job.specs.declared.JobAnswer.TheVariants.{Taken, Refused}
 
 -- ---- Need not be believed: the reading. `reads_job` of the page of claims ties it to `Verdict`.
 
@@ -31,6 +31,5 @@ filled (done os) table = os ++ drop (length os) table
 filled (refused n p) table = table
 
 -- the paper's value of each answer of `read_job`
-abbrev pub paper_job : JobAnswer → Result ℕ
-paper_job (Taken n) = done n
-paper_job (Refused r) = refused_as r
+abbrev pub paper_job : Returned ℕ Refusal → Result ℕ
+paper_job = paper (λ n. n)

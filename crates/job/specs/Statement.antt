@@ -1,8 +1,10 @@
 -- What one statement reads as, from an offset on (document 01, "The job grammar").
 use Rattle.std.specs.Prelude.{ℕ, ◌≡◌, cond, List, [], ◌∷◌, leb, length, drop}
+use Rattle.std.specs.declared.result.Result.{Result as Returned}
 use Rattle.counts.specs.Limits.{file_bytes}
 use Rattle.counts.specs.Refusals.{file_too_long, out_of_range}
-use Rattle.counts.specs.Result.{Result, refused_as}
+use Rattle.counts.specs.Result.{Result, paper}
+use Rattle.counts.specs.declared.Refusal.{Refusal}
 use Rattle.counts.specs.Result.Result.{refused, done}
 use Rattle.token.specs.Token.{is_text_at, content_at}
 use Rattle.grammar.specs.declared.StartClause.{StartClause}
@@ -11,13 +13,9 @@ use Rattle.item.specs.Tokens.{next_item}
 use Rattle.item.specs.Tokens.Next.{ended}
 use Rattle.item.specs.Items.{item_at}
 use Rattle.meaning.specs.Paper.{paper_statement}
-use Rattle.statement.specs.Statement.{statement_of}
+use Rattle.statement.specs.Statement.{StatementRead, statement_of}
 use Rattle.statement.specs.declared.Statement.{Statement}
-use Rattle.statement.specs.declared.StatementRead.{StatementRead}
-use Rattle.statement.specs.declared.StatementRead.TheVariants.{Is, Refused}
 use Rattle.job.specs.declared.StatementAt.{StatementAt}
-use Rattle.job.specs.declared.StatementAnswer.{StatementAnswer}
-use Rattle.job.specs.declared.StatementAnswer.TheVariants.{Read, Refused as NotRead}
 
 -- a statement, its own offset and the place after its `;`
 abbrev pub placed : Statement → ℕ → ℕ → StatementAt
@@ -27,8 +25,8 @@ placed x offset next = record { statement = x; offset = offset; next = next }
 
 -- the statement that begins with the token at the place p
 abbrev pub on_read : ℕ → StatementRead → Result StatementAt
-on_read p (Is x next) = done (placed x p next)
-on_read p (Refused r) = refused r.number r.place
+on_read p (done (x, next)) = done (placed x p next)
+on_read p (refused number place) = refused number place
 
 -- the bytes s, which stand in the file from the place base on, as if a statement of any kind began there
 abbrev pub statement_in : StartClause → ℕ → List ℕ → Result StatementAt
@@ -45,9 +43,8 @@ read_statement clause s at =
 -- ---- what the calls return, and how statements tile a file
 
 -- the paper's value of each answer of `read_statement`
-abbrev pub paper_statement_at : StatementAnswer → Result StatementAt
-paper_statement_at (Read x) = done x
-paper_statement_at (NotRead r) = refused_as r
+abbrev pub paper_statement_at : Returned StatementAt Refusal → Result StatementAt
+paper_statement_at = paper (λ x. x)
 
 -- "The text of a quoted string is shown as that part of the file between its quotes. ... where no whole string begins there it shows the
 -- empty part"

@@ -4,7 +4,7 @@ use mathlib.Core.Path.{◌≡◌, refl, sym, ◌∙◌, ap, subst}
 use mathlib.Core.Bool.{Bool, true, false, true≢false, cond}
 use mathlib.Core.List.{List, [], ◌∷◌, ◌++◌, append_assoc, append-nil}
 use native.Mathlib.Omega.{arith}
-use Rattle.counts.specs.Refusals.{no_token, unexpected, not_real, open_string, broken_string, misshapen, end_of_file, refusal}
+use Rattle.counts.specs.Refusals.{no_token, unexpected, not_real, open_string, broken_string, misshapen, end_of_file}
 use Rattle.counts.specs.Result.{Result}
 use Rattle.counts.specs.Result.Result.{refused, done as whole}
 use Rattle.grammar.specs.declared.StartClause.{StartClause}
@@ -24,9 +24,7 @@ use Rattle.item.specs.Tokens.{next_item, Tokens, After}
 use Rattle.item.specs.Tokens.Next.{item, ended, no_token_next}
 use Rattle.item.specs.Items.{item_at}
 use Rattle.item.specs.Tokens.Tokens.{at_end_here, no_token_here, then as and_then}
-use Rattle.statement.specs.declared.StatementRead.{StatementRead}
-use Rattle.statement.specs.declared.StatementRead.TheVariants.{Is, Refused}
-use Rattle.statement.specs.Statement.{Held, read_from}
+use Rattle.statement.specs.Statement.{StatementRead, Held, read_from}
 use Rattle.statement.proofs.Along.{is_whole, after, on_token, on_end, on_no_token}
 use Rattle.statement.proofs.Bridge.{Holds, by_tokens}
 use Rattle.item.specs.Tokens.After.{here, then}
@@ -34,8 +32,8 @@ use Rattle.job_claims.specs.Rows.{WholeOne, Opens, OneThree, OneFifteen, OneSixt
 
 -- an answer without the statement's values: the place after its `;`, or the refusal
 abbrev pub end_of : StatementRead → Result ℕ
-end_of (Is x e) = whole e
-end_of (Refused r) = refused r.number r.place
+end_of (whole (x, e)) = whole e
+end_of (refused n p) = refused n p
 
 module _ (s : List ℕ) where
   after_more : {i j : ℕ} {a : List Placed} {t : Placed} → After s i a j → next_item s j ≡ item t → After s i (a ++ (t ∷ [])) t.end
@@ -171,7 +169,7 @@ module _ (clause : StartClause) where
       -- refused at the token t after a
       at_token : (a : List Placed) (t : Placed) (p : ℕ) → Stands ts p a t → is_point (point a) dead ≡ false → is_point (point a) done ≡ false
           → is_point (step (point a) t.class) dead ≡ true → (y : Bool) → is_point (step (point a) (shape t.class)) dead ≡ y
-          → ends (statement clause) tt at ≡ end_of (cond y (Refused (refusal unexpected p)) (Refused (refusal not_real p)))
+          → ends (statement clause) tt at ≡ end_of (cond y (refused unexpected p) (refused not_real p))
       at_token a t p h l n e y f =
           let c : Cut s at a (t ∷ h.after) z = cut s a d h.parts in
           let k = so_far c.first l in

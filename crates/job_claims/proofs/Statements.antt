@@ -25,10 +25,8 @@ use Rattle.grammar.proofs.Points.{any_walks}
 use Rattle.item.specs.Tokens.{line_at}
 use Rattle.item.proofs.Lines.{tokens_at}
 use Rattle.item.specs.Items.{item_at}
-use Rattle.statement.specs.Statement.{read_from, statement_of}
+use Rattle.statement.specs.Statement.{StatementRead, read_from, statement_of}
 use Rattle.statement.specs.declared.Statement.{Statement}
-use Rattle.statement.specs.declared.StatementRead.{StatementRead}
-use Rattle.statement.specs.declared.StatementRead.TheVariants.{Is, Refused}
 use Rattle.statement.proofs.Along.{any_kind}
 use Rattle.statement.proofs.From.{statement_from}
 use Rattle.meaning.proofs.Lossless.{one_statement}
@@ -47,8 +45,8 @@ ends (done x) = done x.next
 ends (refused n p) = refused n p
 
 of_read : (p : ℕ) (r : StatementRead) → ends (on_read p r) ≡ end_of r
-of_read p (Is x e) = refl
-of_read p (Refused r) = refl
+of_read p (done (x, e)) = refl
+of_read p (refused n q) = refl
 
 ends_refused : (a : Result StatementAt) (n p : ℕ) → ends a ≡ refused n p → a ≡ refused n p
 ends_refused (done x) n p e = let z : ◌≡◌ {A = ℕ} 0 1 = cc in absurd (omega arith)

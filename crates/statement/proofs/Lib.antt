@@ -1,3 +1,4 @@
+pub mod Passed
 pub mod Values
 pub mod Along
 pub mod From

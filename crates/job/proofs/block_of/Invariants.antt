@@ -1,5 +1,5 @@
 -- `job::block_of` meets its contract.
-use Prim.Native.Nat.{◌+◌, ◌-◌, ◌≤◌}
+use Prim.Native.Nat.{◌+◌, ◌≤◌}
 use mathlib.Core.Path.{◌≡◌}
 use lib.ListN.{length, take}
 use Rattle.counts.specs.Limits.{statements}
@@ -11,7 +11,3 @@ invariant-loop-count l =
     (after (take l.count l.places) (rest_of l.clause l.file (l.k + l.count) l.next) ≡ rest_of l.clause l.file l.k l.at)
     × (l.k + l.count ≤ statements)
     × (length l.places ≡ 16)
-    × (l.count ≤ 16)
-
-abbrev pub decreases-loop-count : goal.decreases-loop-count
-decreases-loop-count l = 16 - l.count

@@ -12,4 +12,4 @@ returns-then-t-eq-JOB c =
 pub returns : goal.returns
 returns c =
     let a = c.args in
-    rw c.refusal_number.ensures (first_is_other a.clause a.file.now a.t c.if-t-eq-JOB.false)
+    rw (c.refuse.ensures, c.refusal_reason.ensures) (first_is_other a.clause a.file.now a.t c.if-t-eq-JOB.false)
