@@ -20,8 +20,8 @@ use Rattle.field.proofs.Same.{same_length}
 use Rattle.grammar.specs.Statement as read
 use Rattle.grammar.specs.Statement.{Operator, Number, Start}
 use Rattle.meaning.specs.Paper.{paper_start, paper_value}
-use Rattle.statement.specs.declared.Day.{Day}
-use Rattle.statement.specs.declared.Day.TheVariants.{Any, On}
+use Rattle.std.specs.declared.option.Option.{Option}
+use Rattle.std.specs.declared.option.Option.TheVariants.{Some, None}
 use Rattle.statement.specs.declared.Start.{Start as Clause}
 use Rattle.statement.specs.declared.Start.TheVariants.{At}
 use Rattle.statement.specs.declared.Operand.{Operand}
@@ -112,12 +112,12 @@ numbers_permitted s o k v h =
 -- ---- the decision
 
 -- of a time nothing is asked but that it is real
-pub time_not_refused : (s : List ℕ) (v : Compared) (x : Clause) {time : ℕ} {d : Day} → x ≡ At time d → 0 ≡ clause_refusal s v (paper_start x)
+pub time_not_refused : (s : List ℕ) (v : Compared) (x : Clause) {time : ℕ} {d : Option ℕ} → x ≡ At time d → 0 ≡ clause_refusal s v (paper_start x)
 time_not_refused s v x {time} {d} e = rw e (go d)
   where
-    go : (d : Day) → 0 ≡ clause_refusal s v (paper_start (At time d))
-    go Any = refl
-    go (On date) = refl
+    go : (d : Option ℕ) → 0 ≡ clause_refusal s v (paper_start (At time d))
+    go None = refl
+    go (Some date) = refl
 
 module _ (g : Given) (x : Start) where
   pub unreal_so : all_real g.date g.time g.taken_up x ≡ false → refused not_real 0 ≡ decision g x

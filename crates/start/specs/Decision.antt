@@ -1,9 +1,11 @@
 -- What `is_due` answers (document 02, P3), and what its answer says.
 use Rattle.std.specs.Prelude.{ℕ, ◌+◌, ◌*◌, ◌^◌, ◌≤◌, ◌<◌, ◌≡◌, Bool, true, false, cond, not, ◌&&◌, ◌||◌, List, ◌⊎◌, eqb, ltb, ℤ, pos, negsuc, nat_abs}
 use Rattle.std.specs.Int.Signed.{lt_z}
+use Rattle.std.specs.declared.result.Result.{Result as Returned}
 use Rattle.counts.specs.Limits.{number_digits}
 use Rattle.counts.specs.Refusals.{not_real, not_a_record, not_comparable}
-use Rattle.counts.specs.Result.{Result, refused, done, refused_as}
+use Rattle.counts.specs.Result.{Result, refused, done, paper}
+use Rattle.counts.specs.declared.Refusal.{Refusal}
 use Rattle.calendar.specs.Calendar.{real_date, real_time}
 use Rattle.field.specs.Bytes.{same}
 use Rattle.moment.specs.Moment.{real_moment, at_or_after}
@@ -18,8 +20,6 @@ use Rattle.job.specs.Statement.{text_at}
 use Rattle.start.specs.Due.{Compared, number, text, Given, scaled}
 use Rattle.start.specs.declared.Present.{Present}
 use Rattle.start.specs.declared.Present.TheVariants as present
-use Rattle.start.specs.declared.Decision.{Decision}
-use Rattle.start.specs.declared.Decision.TheVariants.{Due, NotDue, Refused}
 
 -- ---- what is given, and 02's value of each answer
 
@@ -32,10 +32,8 @@ abbrev pub given : List ℕ → ℕ → ℕ → ℕ → Compared → Given
 given bytes date time taken_up value = record { bytes = bytes; date = date; time = time; taken_up = taken_up; value = value }
 
 -- yes where the clause is due
-abbrev pub paper_decision : Decision → Result Bool
-paper_decision Due = done true
-paper_decision NotDue = done false
-paper_decision (Refused r) = refused_as r
+abbrev pub paper_decision : Returned Bool Refusal → Result Bool
+paper_decision = paper (λ due. due)
 
 -- ---- Need not be believed: the decision as code makes it. `decides` of the page of claims ties it to `Due`.
 

@@ -3,6 +3,7 @@
 #![tactic(auto)]
 
 ghost use Rattle.std.specs.Prelude.{◌≡◌, true, List, [], ℕ, ◌*◌, ◌^◌, ◌<◌, ltb, nat_abs};
+ghost use Rattle.counts.specs.Result.{refused_by};
 ghost use Rattle.field.specs.Bytes.{same};
 ghost use Rattle.item.specs.Tokens.{paper_number, paper_operator};
 ghost use Rattle.job.specs.Statement.{text_at};
@@ -10,9 +11,9 @@ ghost use Rattle.meaning.specs.Paper.{paper_start, paper_value};
 ghost use Rattle.start.specs.Due.{Compared};
 ghost use Rattle.start.specs.Decision.{present_value, given, paper_decision, by_order, number_holds, by_same, no_order, is_permitted, value_permitted, constant_permitted, constant_of, comparable, holds, condition_refusal, own_real, all_real, clause_refusal, is_due, decision, negative, mantissa_limit, Grown, Levelled};
 
-use counts::{NOT_A_RECORD, NOT_COMPARABLE, NOT_REAL, NUMBER_DIGITS, Refusal, TEXT_BYTES};
+use counts::{NUMBER_DIGITS, Reason, Refusal, TEXT_BYTES};
 use number::Number;
-use statement::{Day, Operand, Start};
+use statement::{Operand, Start};
 use token::Operator;
 
 // The parameter's present value: a number, or the bytes that are given with it.
@@ -20,13 +21,6 @@ use token::Operator;
 pub enum Present {
     Number(Number),
     Text,
-}
-
-#[derive(Clone, Copy)]
-pub enum Decision {
-    Due,
-    NotDue,
-    Refused(Refusal),
 }
 
 // A mantissa is below this, 16 nines at most.
@@ -196,23 +190,23 @@ fn is_comparable(o: Operator, constant: Operand, value: Present) -> bool
     }
 }
 
-// Which refusal a condition gets, and 0 for none.
-fn condition_refusal(
+// Whether a condition may be decided, or why not.
+fn may_compare(
     o: Operator,
     constant: Operand,
     file: &[u8],
     value: Present,
     text: &[u8],
-) -> u32
-    ensures { result ≡ condition_refusal file.now (paper_operator o) (paper_value constant) (present_value value text.now) }
+) -> Result<(), Reason>
+    ensures { refused_by result ≡ condition_refusal file.now (paper_operator o) (paper_value constant) (present_value value text.now) }
 {
     if constant_permitted(constant, file) & value_permitted(value, text) {
         if is_comparable(o, constant, value) {
-            return 0;
+            return Ok(());
         }
-        return NOT_COMPARABLE;
+        return Err(Reason::NotComparable);
     }
-    NOT_A_RECORD
+    Err(Reason::NotARecord)
 }
 
 // Whether a condition holds that no refusal meets.
@@ -239,8 +233,8 @@ fn own_real(clause: Start) -> bool
     match clause {
         Start::Immediate => true,
         Start::At(time, day) => match day {
-            Day::Any => calendar::is_real_time(time),
-            Day::On(date) => moment::is_real(date, time),
+            None => calendar::is_real_time(time),
+            Some(date) => moment::is_real(date, time),
         },
         Start::When(_) => true,
     }
@@ -253,28 +247,28 @@ fn all_real(clause: Start, date: u32, time: u32, taken_up: u32) -> bool
     moment::is_real(date, time) & calendar::is_real_date(taken_up) & own_real(clause)
 }
 
-// Which refusal a clause gets whose dates and times are real, and 0 for none.
-fn clause_refusal(clause: Start, file: &[u8], value: Present, text: &[u8]) -> u32
-    ensures { result ≡ clause_refusal file.now (present_value value text.now) (paper_start clause) }
+// Whether a clause may be decided whose dates and times are real, or why not.
+fn may_decide(clause: Start, file: &[u8], value: Present, text: &[u8]) -> Result<(), Reason>
+    ensures { refused_by result ≡ clause_refusal file.now (present_value value text.now) (paper_start clause) }
 {
     match clause {
-        Start::Immediate => 0,
-        Start::At(_, _) => 0,
+        Start::Immediate => Ok(()),
+        Start::At(_, _) => Ok(()),
         Start::When(c) => {
             let o = c.operator;
             let constant = c.operand;
-            condition_refusal(o, constant, file, value, text)
+            may_compare(o, constant, file, value, text)
         }
     }
 }
 
 // Whether a time has come. Without a date it is that of the day on which the command was taken up.
-fn time_is_due(at: u32, day: Day, date: u32, time: u32, taken_up: u32) -> bool
+fn time_is_due(at: u32, day: Option<u32>, date: u32, time: u32, taken_up: u32) -> bool
     ensures { (s : List ℕ) (v : Compared) → result ≡ is_due (given s date time taken_up v) (paper_start (Start.At at day)) }
 {
     match day {
-        Day::Any => moment::is_at_or_after(date, time, taken_up, at),
-        Day::On(on) => moment::is_at_or_after(date, time, on, at),
+        None => moment::is_at_or_after(date, time, taken_up, at),
+        Some(on) => moment::is_at_or_after(date, time, on, at),
     }
 }
 
@@ -312,18 +306,12 @@ pub fn is_due(
     taken_up: u32,
     value: Present,
     text: &[u8],
-) -> Decision
+) -> Result<bool, Refusal>
     ensures { paper_decision result ≡ decision (given file.now date time taken_up (present_value value text.now)) (paper_start clause) }
 {
     if all_real(clause, date, time, taken_up) {
-        let refused = clause_refusal(clause, file, value, text);
-        if refused == 0 {
-            if clause_is_due(clause, file, date, time, taken_up, value, text) {
-                return Decision::Due;
-            }
-            return Decision::NotDue;
-        }
-        return Decision::Refused(Refusal::plain(refused));
+        may_decide(clause, file, value, text)?;
+        return Ok(clause_is_due(clause, file, date, time, taken_up, value, text));
     }
-    Decision::Refused(Refusal::plain(NOT_REAL))
+    Err(Reason::NotReal.into())
 }

@@ -1,7 +1,7 @@
--- `start::condition_refusal` meets its contract.
+-- `start::may_compare` meets its contract.
 use Rattle.item.specs.Tokens.{paper_operator}
 use Rattle.start.proofs.Steps.{not_permitted, not_comparable_lem, no_refusal}
-use Rattle.start.proofs.condition_refusal.Goals as goal
+use Rattle.start.proofs.may_compare.Goals as goal
 
 pub returns-then-is_comparable : goal.returns-then-is_comparable
 returns-then-is_comparable c =
