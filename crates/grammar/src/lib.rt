@@ -4,7 +4,7 @@
 // Whether an UPLOAD or DOWNLOAD must have a start clause, as the caller asks. Required: a missing one is refused. Optional: it reads as START IMMEDIATE.
 #![tactic(auto)]
 
-#[derive(Clone, Copy)]
+#[derive(Clone, Copy, Debug, PartialEq, Eq, Hash)]
 pub enum StartClause {
     Required,
     Optional,

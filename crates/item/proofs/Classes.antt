@@ -1,27 +1,104 @@
--- Laws of a class that is chosen by a test, by its number; and of the numbers that dates and times are.
+-- Laws of a class as code has it, by its number; and of the numbers that dates and times are.
 use Prim.Native.Nat.{ℕ, ◌+◌, ◌-◌, ◌*◌, ◌^◌, ◌<◌}
-use mathlib.Core.Path.{◌≡◌, sym, ◌∙◌}
-use mathlib.Core.Bool.{Bool, true, false, cond}
-use mathlib.Core.List.{List}
-use borrow.Author.Tests.{eq-eqb, ne_eqb}
+use mathlib.Core.Path.{◌≡◌, refl, sym, ap, ◌∙◌}
+use mathlib.Core.Bool.{true, false, cond}
+use mathlib.Core.List.{List, [], ◌∷◌}
+use borrow.Author.Tests.{eq-eqb, ne_eqb, eqb-true}
+use lib.Dec.{eqb}
+use lib.ListN.{get_or}
 use Rattle.calendar.specs.Calendar.{real_date}
 use Rattle.decimal.specs.Read.{digits_read}
 use Rattle.decimal.proofs.ReadLaws.{read_back}
 use Rattle.laws.proofs.Choose.{choose}
 use Rattle.grammar.specs.Grammar.{Class, class_no}
 use Rattle.grammar.specs.Grammar.Class.{number, date, unreal_date}
+use Rattle.grammar.proofs.Apart.{at_class}
+use Rattle.token.specs.declared.Why.TheVariants.{Stray, OpenString, BrokenString, Misshapen}
+use Rattle.item.specs.declared.Class.{Class as Code}
+use Rattle.item.specs.declared.Class.TheVariants as code
+use Rattle.item.specs.Items.{code_of, code_no}
 use Rattle.item.specs.Tokens.{eight_at, number_class, date_number, two_at, time_number}
 use Rattle.std.specs.declared.option.Option.{Option}
 use Rattle.std.specs.declared.option.Option.TheVariants.{Some, None}
 
-module _ (x : ℕ) (y z : Class) (t r : Bool) where
-  pub yes_class : r ≡ true → r ≡ t → x ≡ class_no y → x ≡ class_no (cond t y z)
-  yes_class p d e = rw (sym d ∙ p) e
+-- a class as code has it has its number
+pub code_same : (c : Class) → code_no (code_of c) ≡ class_no c
+code_same c = eqb-true _ _ (at_class (λ d. eqb (code_no (code_of d)) (class_no d)) refl c)
 
-  pub no_class : r ≡ false → r ≡ t → x ≡ class_no z → x ≡ class_no (cond t y z)
-  no_class p d e = rw (sym d ∙ p) e
+-- and its number tells it from others
+codes : List Code
+codes =
+    code.Job
+    ∷ code.Response
+    ∷ code.Upload
+    ∷ code.Download
+    ∷ code.GetInfo
+    ∷ code.Abort
+    ∷ code.Report
+    ∷ code.Event
+    ∷ code.Start
+    ∷ code.Active
+    ∷ code.Immediate
+    ∷ code.Reserved
+    ∷ code.Name
+    ∷ code.TimeGe
+    ∷ code.Number
+    ∷ code.Date
+    ∷ code.UnrealDate
+    ∷ code.Time
+    ∷ code.UnrealTime
+    ∷ code.Text
+    ∷ code.Operator
+    ∷ code.Semicolon
+    ∷ code.End
+    ∷ code.NoToken Stray
+    ∷ code.NoToken OpenString
+    ∷ code.NoToken BrokenString
+    ∷ code.NoToken Misshapen
+    ∷ []
 
-pub ruleset classes = (choose, yes_class, no_class)
+code_back : (c : Code) → get_or codes (code_no c) code.End ≡ c
+unfolding codes
+code_back code.Job = refl
+code_back code.Response = refl
+code_back code.Upload = refl
+code_back code.Download = refl
+code_back code.GetInfo = refl
+code_back code.Abort = refl
+code_back code.Report = refl
+code_back code.Event = refl
+code_back code.Start = refl
+code_back code.Active = refl
+code_back code.Immediate = refl
+code_back code.Reserved = refl
+code_back code.Name = refl
+code_back code.TimeGe = refl
+code_back code.Number = refl
+code_back code.Date = refl
+code_back code.UnrealDate = refl
+code_back code.Time = refl
+code_back code.UnrealTime = refl
+code_back code.Text = refl
+code_back code.Operator = refl
+code_back code.Semicolon = refl
+code_back code.End = refl
+code_back (code.NoToken Stray) = refl
+code_back (code.NoToken OpenString) = refl
+code_back (code.NoToken BrokenString) = refl
+code_back (code.NoToken Misshapen) = refl
+
+pub same_code : (c d : Code) → code_no c ≡ code_no d → c ≡ d
+same_code c d e = sym (code_back c) ∙ ap (λ (n : ℕ). get_or codes n code.End) e ∙ code_back d
+
+-- a choice by a class's number, where it is known which class it is, or is not
+module _ (A : Type 0) (x y z : A) (c d : Code) (n : ℕ) where
+  pub yes_class : c ≡ d → code_no d ≡ n → x ≡ y → x ≡ cond (eqb (code_no c) n) y z
+  yes_class p q e = rw (p, q, eq-eqb n n refl) e
+
+  pub no_class : (c ≡ d → ⊥) → code_no d ≡ n → x ≡ z → x ≡ cond (eqb (code_no c) n) y z
+  no_class p q e = rw (ne_eqb (code_no c) n (λ m. p (same_code c d (m ∙ sym q)))) e
+
+pub ruleset by_class = (choose, yes_class, no_class)
 
 -- what a number from a to b is
 pub record Dated (s : List ℕ) (a b : ℕ) (c : Class) (n : ℕ) : Type 0 where

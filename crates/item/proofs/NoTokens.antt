@@ -13,7 +13,7 @@ use Rattle.field.specs.Bytes.{has_at, ascii}
 use Rattle.scan.specs.Kinds.{is_digit, is_letter, is_word_byte, is_numeric_byte}
 use Rattle.scan.specs.Run.{run_end}
 use Rattle.word.specs.Word.{which_word, word_read}
-use Rattle.word.specs.declared.WordRead.TheVariants.{Is, NoWord}
+use Rattle.std.specs.declared.option.Option.TheVariants.{Some, None}
 use Rattle.word.specs.declared.Word.TheVariants.{TimeGe}
 use Rattle.word.proofs.Alone.{time_letters}
 use Rattle.token.specs.Token.{content_end, content_fits, is_text_at, is_time_at, is_number_at, NumericRun, word_token, string_at, shaped_at, numeric_at, one_sign, sign_at, token_at}
@@ -137,7 +137,7 @@ module _ (s : List ℕ) (i : ℕ) where
   word_found letter = go (has_at s i (ascii "TIME>=")) (ltb (i + word_bytes) (run_end is_word_byte s i)) refl
     where
       go : (a b : Bool) → ltb (i + word_bytes) (run_end is_word_byte s i) ≡ b
-          → Found s i (word_token i (cond a (Is TimeGe (i + 6)) (cond b NoWord (Is (which_word s i (run_end is_word_byte s i - i)) (run_end is_word_byte s i)))))
+          → Found s i (word_token i (cond a (Some (TimeGe, i + 6)) (cond b None (Some (which_word s i (run_end is_word_byte s i - i), run_end is_word_byte s i)))))
       go true b e = some refl
       go false true e = overlong (record { letter = letter; overlong = ltb-true (i + word_bytes) (run_end is_word_byte s i) e })
       go false false e = some refl

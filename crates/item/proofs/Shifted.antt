@@ -1,5 +1,6 @@
 -- What stands in a file stands in the file with one byte more in front, one place later: so the bytes of a file from a place on read, from
 -- there, as the file does.
+use Rattle.word.specs.Word.{WordRead}
 use Prim.Native.Nat.compare
 use Prim.Native.Nat.{ℕ, suc}
 use mathlib.Core.Path.{◌≡◌, refl, ◌∙◌, ap}
@@ -10,8 +11,7 @@ use lib.ListN.{drop}
 use Rattle.field.specs.Part.{part}
 use Rattle.scan.specs.Run.{blank, blank_end}
 use Rattle.scan.proofs.Runs.{run_up}
-use Rattle.word.specs.declared.WordRead.{WordRead}
-use Rattle.word.specs.declared.WordRead.TheVariants.{Is, NoWord}
+use Rattle.std.specs.declared.option.Option.TheVariants.{Some, None}
 use Rattle.word.proofs.Words as words
 use Rattle.word.proofs.Words.{word_up}
 use Rattle.token.specs.Token.{word_token, string_at, is_text_at, is_time_at, is_number_at, shaped_at, numeric_at, sign_at, token_at, next_token}
@@ -37,8 +37,8 @@ up_item (ended p) = ended (suc p)
 up_item (no_token_next why p) = no_token_next why (suc p)
 
 of_word : (i : ℕ) (r : WordRead) → word_token (suc i) (words.up r) ≡ up (word_token i r)
-of_word i (Is w e) = refl
-of_word i NoWord = refl
+of_word i (Some (w, e)) = refl
+of_word i None = refl
 
 up_cond : (b : Bool) (x y : Token) → up (cond b x y) ≡ cond b (up x) (up y)
 up_cond true x y = refl

@@ -19,18 +19,19 @@ use Rattle.grammar.specs.Grammar.{Class, class_no}
 use Rattle.grammar.specs.Reading.{no_token_number}
 use Rattle.grammar.proofs.Apart.{class_below}
 use Rattle.grammar.specs.Productions.{Placed}
-use Rattle.item.specs.Tokens.{Next, item_of, next_item}
+use Rattle.item.specs.Tokens.{Next, word_class, number_class, time_class, item_of, next_item}
 use Rattle.item.specs.Tokens.Next.{item, ended, no_token_next}
-use Rattle.item.specs.Items.{end_no, no_token_no, refusal_no, numbered, item_at}
+use Rattle.item.specs.Items.{code_no, end_no, no_token_no, refusal_no, numbered, item_at}
 use Rattle.item.specs.declared.Item.{Item}
+use Rattle.item.proofs.Classes.{code_same}
 use Rattle.item.proofs.Standing.{next_of}
 use Rattle.item.proofs.Shifted.{up, next_up, part_up, number_class_up, date_up, time_up}
 
 -- an item's numbers are those of what stands next
 pub data Shows (t : Item) : Next → Type 0 where
-  a_token : {u : Placed} → t.class ≡ class_no u.class → t.place ≡ u.place → t.next ≡ u.end → Shows t (item u)
-  the_end : {p : ℕ} → t.class ≡ end_no → t.place ≡ p → Shows t (ended p)
-  no_token_here : {why : Why} {p : ℕ} → t.class ≡ no_token_no why → t.place ≡ p → Shows t (no_token_next why p)
+  a_token : {u : Placed} → code_no t.class ≡ class_no u.class → t.place ≡ u.place → t.next ≡ u.end → Shows t (item u)
+  the_end : {p : ℕ} → code_no t.class ≡ end_no → t.place ≡ p → Shows t (ended p)
+  no_token_here : {why : Why} {p : ℕ} → code_no t.class ≡ no_token_no why → t.place ≡ p → Shows t (no_token_next why p)
 
 -- the numbers of no token are above that of the end, and those of the classes below
 pub no_token_numbers : (why : Why) → (22 < no_token_no why) × (refusal_no (no_token_no why) ≡ no_token_number why)
@@ -52,9 +53,9 @@ by_token : (s : List ℕ) (k : Token) → Shows (numbered 0 s k) (item_of s k)
 unfolding numbered item_of
 by_token s (End p) = the_end refl (none_before p)
 by_token s (NoToken w p) = no_token_here refl (none_before p)
-by_token s (Word a b w) = a_token refl (none_before a) (none_before b)
-by_token s (Number a b) = a_token refl (none_before a) (none_before b)
-by_token s (Time a b) = a_token refl (none_before a) (none_before b)
+by_token s (Word a b w) = a_token (code_same (word_class w)) (none_before a) (none_before b)
+by_token s (Number a b) = a_token (code_same (number_class s a b)) (none_before a) (none_before b)
+by_token s (Time a b) = a_token (code_same (time_class s a)) (none_before a) (none_before b)
 by_token s (Text a b) = a_token refl (none_before a) (none_before b)
 by_token s (Sign o a b) = a_token refl (none_before a) (none_before b)
 by_token s (Semicolon a b) = a_token refl (none_before a) (none_before b)

@@ -17,11 +17,12 @@ use Rattle.number.specs.Number.{number_of}
 use Rattle.number.specs.declared.Number.{Number as NumberRead}
 use Rattle.item.specs.Tokens.{Next, word_class, number_class, date_number, time_class, time_number, paper_number, paper_operator, item_of, next_item}
 use Rattle.item.specs.Tokens.Next.{item, ended, no_token_next}
-use Rattle.item.specs.Items.{zero, made_of, numbered, item_at}
+use Rattle.item.specs.Items.{code_of, code_no, zero, made_of, numbered, item_at}
 use Rattle.item.specs.declared.Item.{Item}
+use Rattle.item.proofs.Classes.{code_same}
 
 pub record Tells (t : Item) (u : Placed) : Type 0 where
-  pub class : t.class ≡ class_no u.class
+  pub class : code_no t.class ≡ class_no u.class
   pub place : t.place ≡ u.place
   pub spans : t.place + t.length ≡ u.end
   pub next : t.next ≡ u.end
@@ -35,13 +36,13 @@ Told t (ended p) = Unit {0}
 Told t (no_token_next why p) = Unit {0}
 
 made_tells : (c : Class) (a b v : ℕ) (n : NumberRead) (o : Operator) → a ≤ b
-    → Tells (made_of 0 (class_no c) a b v n o) (record {
+    → Tells (made_of 0 (code_of c) a b v n o) (record {
       class = c;
       place = a;
       end = b;
       said = record { moment = v; number = paper_number n; operator = paper_operator o };
     })
-made_tells c a b v n o l = record { class = refl; place = omega arith; spans = omega arith; next = omega arith; moment = refl; number = refl; operator = refl }
+made_tells c a b v n o l = record { class = code_same c; place = omega arith; spans = omega arith; next = omega arith; moment = refl; number = refl; operator = refl }
 
 by_token : (s : List ℕ) (k : Token) → start_of k ≤ end_of k → Told (numbered 0 s k) (item_of s k)
 unfolding numbered item_of
@@ -65,5 +66,5 @@ pub tells : (s : List ℕ) (i : ℕ) (u : Placed) → next_item s i ≡ item u �
 tells s i u e = subst (Told (item_at 0 s i)) e (told s i)
 
 -- a token's class, by its number
-pub told_class : (s : List ℕ) (i : ℕ) (u : Placed) (c : Class) → next_item s i ≡ item u → Is c u → (item_at 0 s i).class ≡ class_no c
+pub told_class : (s : List ℕ) (i : ℕ) (u : Placed) (c : Class) → next_item s i ≡ item u → Is c u → code_no (item_at 0 s i).class ≡ class_no c
 told_class s i u c e h = rw (← h) (tells s i u e).class

@@ -24,7 +24,7 @@ use Rattle.grammar.proofs.Apart.{is_class_lem, class_below}
 use Rattle.item.specs.Tokens.{Tokens}
 use Rattle.item.specs.Tokens.Next.{item, ended, no_token_next}
 use Rattle.item.specs.Tokens.Tokens.{at_end_here, no_token_here, then}
-use Rattle.item.specs.Items.{end_no, refusal_no, item_at}
+use Rattle.item.specs.Items.{code_no, end_no, refusal_no, item_at}
 use Rattle.item.specs.declared.Item.{Item}
 use Rattle.item.proofs.Shows.{Shows, shows, no_token_numbers}
 use Rattle.item.proofs.Shows.Shows.{a_token, the_end, no_token_here as none_there}
@@ -61,10 +61,10 @@ opening_is clause os rs t = go os (is_class t.class JOB) refl
     go (o ∷ os) false e = rw (e, not_job t.class e)
 
 -- what stands between statements, by the tests
-tested : (clause : StartClause) (s : List ℕ) (k : ℕ) (t : Item) (a b f z : Bool) → eqb t.class end_no ≡ a → ltb end_no t.class ≡ b → eqb k statements ≡ f
+tested : (clause : StartClause) (s : List ℕ) (k : ℕ) (t : Item) (a b f z : Bool) → eqb (code_no t.class) end_no ≡ a → ltb end_no (code_no t.class) ≡ b → eqb k statements ≡ f
     → eqb k 0 ≡ z
-    → step_of clause s k t ≡ cond a (cond z (refuse (refusal_no t.class) t) (taken None))
-    (cond b (refuse (refusal_no t.class) t) (cond f (refuse too_many_statements t) (step_into clause s k t)))
+    → step_of clause s k t ≡ cond a (cond z (refuse (refusal_no (code_no t.class)) t) (taken None))
+    (cond b (refuse (refusal_no (code_no t.class)) t) (cond f (refuse too_many_statements t) (step_into clause s k t)))
 unfolding step_of
 tested clause s k t a b f z p q r o = rw (p, q, r, o)
 
@@ -83,14 +83,14 @@ module _ (clause : StartClause) (s : List ℕ) where
   at_no_token t why p os k (none_there c q) =
       let above = (no_token_numbers why).0 in
       ap (λ (x : Step). after os (on_step x k))
-      (tested clause s (length os) t false true _ _ (ne_eqb t.class end_no (λ e. omega arith)) (lt-ltb end_no t.class (omega arith)) refl refl)
+      (tested clause s (length os) t false true _ _ (ne_eqb (code_no t.class) end_no (λ e. omega arith)) (lt-ltb end_no (code_no t.class) (omega arith)) refl refl)
       ∙ rw (c, q, (no_token_numbers why).1)
 
-  not_end : (t : Item) (c : Class) → t.class ≡ class_no c → eqb t.class end_no ≡ false
-  not_end t c e = ne_eqb t.class end_no (λ x. omega (arith, class_below c))
+  not_end : (t : Item) (c : Class) → code_no t.class ≡ class_no c → eqb (code_no t.class) end_no ≡ false
+  not_end t c e = ne_eqb (code_no t.class) end_no (λ x. omega (arith, class_below c))
 
-  not_above : (t : Item) (c : Class) → t.class ≡ class_no c → ltb end_no t.class ≡ false
-  not_above t c e = le-ltb end_no t.class (omega (arith, class_below c))
+  not_above : (t : Item) (c : Class) → code_no t.class ≡ class_no c → ltb end_no (code_no t.class) ≡ false
+  not_above t c e = le-ltb end_no (code_no t.class) (omega (arith, class_below c))
 
   full : (t : Item) (u : Placed) (os : List ℕ) (k : ℕ → OffsetsRead) → length os ≡ statements → Shows t (item u)
       → after os (on_step (step_of clause s (length os) t) k) ≡ refused too_many_statements u.place

@@ -23,7 +23,7 @@ use Rattle.counts.specs.Result.Result.{refused, done}
 use Rattle.grammar.specs.declared.StartClause.{StartClause}
 use Rattle.grammar.specs.Reading.{end_number, OffsetsRead}
 use Rattle.item.specs.Tokens.{Next, next_item}
-use Rattle.item.specs.Items.{end_no, refusal_no, item_at}
+use Rattle.item.specs.Items.{code_no, end_no, refusal_no, item_at}
 use Rattle.item.specs.declared.Item.{Item}
 use Rattle.item.proofs.Lines.{inside}
 use Rattle.item.proofs.Shows.{Shows, shows, no_token_numbers}
@@ -50,14 +50,14 @@ block_refused clause s k at (Err x) e h is = ap refused_as h.1 ∙ is
 -- after the last statement that a file may have, no statement is read
 full_stops : (clause : StartClause) (s : List ℕ) (t : Item) (n : ℕ) → step_of clause s statements t ≡ done (Some n) → ⊥
 unfolding step_of
-full_stops clause s t n e = go (eqb t.class end_no) (ltb end_no t.class) e
+full_stops clause s t n e = go (eqb (code_no t.class) end_no) (ltb end_no (code_no t.class)) e
   where
-    go : (a b : Bool) → cond a (done None) (cond b (refuse (refusal_no t.class) t) (refuse too_many_statements t)) ≡ done (Some n) → ⊥
+    go : (a b : Bool) → cond a (done None) (cond b (refuse (refusal_no (code_no t.class)) t) (refuse too_many_statements t)) ≡ done (Some n) → ⊥
     go true b x = over≢on x
     go false true x = refused≢on x
     go false false x = refused≢on x
 
-ended_stops : (clause : StartClause) (s : List ℕ) (k : ℕ) (t : Item) (n : ℕ) → t.class ≡ end_no → step_of clause s k t ≡ done (Some n) → ⊥
+ended_stops : (clause : StartClause) (s : List ℕ) (k : ℕ) (t : Item) (n : ℕ) → code_no t.class ≡ end_no → step_of clause s k t ≡ done (Some n) → ⊥
 unfolding step_of
 ended_stops clause s k t n c e = go (eqb k 0) (rw c at e)
   where
@@ -65,9 +65,9 @@ ended_stops clause s k t n c e = go (eqb k 0) (rw c at e)
     go true x = refused≢on x
     go false x = over≢on x
 
-no_token_stops : (clause : StartClause) (s : List ℕ) (k : ℕ) (t : Item) (n : ℕ) → end_no < t.class → step_of clause s k t ≡ done (Some n) → ⊥
+no_token_stops : (clause : StartClause) (s : List ℕ) (k : ℕ) (t : Item) (n : ℕ) → end_no < code_no t.class → step_of clause s k t ≡ done (Some n) → ⊥
 unfolding step_of
-no_token_stops clause s k t n l e = refused≢on (rw (ne_eqb t.class end_no (λ c. omega arith), lt-ltb end_no t.class l) at e)
+no_token_stops clause s k t n l e = refused≢on (rw (ne_eqb (code_no t.class) end_no (λ c. omega arith), lt-ltb end_no (code_no t.class) l) at e)
 
 -- a statement is read where a token stands
 pub on_token : (clause : StartClause) (s : List ℕ) (k at : ℕ) (t : Item) (n : ℕ) → step_of clause s k t ≡ done (Some n) → (x : Next) → next_item s at ≡ x → Shows t x

@@ -14,7 +14,7 @@ use Rattle.grammar.specs.declared.StartClause.{StartClause}
 use Rattle.grammar.specs.Grammar.{class_no}
 use Rattle.grammar.specs.Grammar.Class.{JOB}
 use Rattle.grammar.specs.Reading.{OffsetsRead}
-use Rattle.item.specs.Items.{end_no, refusal_no, item_at}
+use Rattle.item.specs.Items.{code_no, end_no, refusal_no, item_at}
 use Rattle.item.specs.declared.Item.{Item}
 use Rattle.statement.specs.Statement.{StatementRead, statement_of}
 use Rattle.job.specs.declared.StatementsFound.{StatementsFound}
@@ -38,14 +38,14 @@ step_read (refused n p) = refused n p
 unfoldable pub step_into : StartClause → List ℕ → ℕ → Item → Step
 step_into clause s k t =
     cond (eqb k 0)
-    (cond (eqb t.class (class_no JOB)) (step_read (statement_of 0 s clause t)) (refuse unexpected t))
-    (cond (eqb t.class (class_no JOB)) (refuse unexpected t) (step_read (statement_of 0 s clause t)))
+    (cond (eqb (code_no t.class) (class_no JOB)) (step_read (statement_of 0 s clause t)) (refuse unexpected t))
+    (cond (eqb (code_no t.class) (class_no JOB)) (refuse unexpected t) (step_read (statement_of 0 s clause t)))
 
 -- what stands after k statements: the file's end, no token, a token too many, or one more statement
 unfoldable pub step_of : StartClause → List ℕ → ℕ → Item → Step
 step_of clause s k t =
-    cond (eqb t.class end_no) (cond (eqb k 0) (refuse (refusal_no t.class) t) (done None))
-    (cond (ltb end_no t.class) (refuse (refusal_no t.class) t) (cond (eqb k statements) (refuse too_many_statements t) (step_into clause s k t)))
+    cond (eqb (code_no t.class) end_no) (cond (eqb k 0) (refuse (refusal_no (code_no t.class)) t) (done None))
+    (cond (ltb end_no (code_no t.class)) (refuse (refusal_no (code_no t.class)) t) (cond (eqb k statements) (refuse too_many_statements t) (step_into clause s k t)))
 
 -- offsets, and then those of the rest
 abbrev pub after : List ℕ → OffsetsRead → OffsetsRead

@@ -13,7 +13,7 @@ ghost use Rattle.job.specs.Loop.{paper_step, step_read, step_of, rest_of, BlockR
 
 use counts::{FILE_BYTES, Reason, Refusal, STATEMENTS};
 use grammar::StartClause;
-use item::{END, Item, JOB, next_item, refusal_reason};
+use item::{Class, Item, next_item, refusal_reason};
 use scan::{TEXT, run_end};
 use statement::{Statement, statement_of};
 use token::is_text;
@@ -53,10 +53,10 @@ fn first_read(file: &[u8], clause: StartClause, t: Item) -> Result<(Statement, u
     requires { length file.now ≤ file_bytes }
     ensures { step_read (paper_read result) ≡ step_of clause file.now 0 t }
 {
-    if t.class == JOB {
-        return statement_of(file, 0, clause, t);
+    match t.class {
+        Class::Job => statement_of(file, 0, clause, t),
+        _ => Err(refuse(refusal_reason(t.class), t)),
     }
-    Err(refuse(refusal_reason(t.class), t))
 }
 
 // What stands after k statements, of which the first was JOB and no other is: one more that ends before a place, or the end of the file.
@@ -64,20 +64,22 @@ fn step_of(file: &[u8], clause: StartClause, k: usize, t: Item) -> Result<Option
     requires { (length file.now ≤ file_bytes) × (1 ≤ k) }
     ensures { paper_step result ≡ step_of clause file.now k t }
 {
-    if t.class == END {
-        return Ok(None);
+    match t.class {
+        Class::End => Ok(None),
+        Class::NoToken(_) => Err(refuse(refusal_reason(t.class), t)),
+        _ => {
+            if k == STATEMENTS as usize {
+                return Err(refuse(Reason::TooManyStatements, t));
+            }
+            match t.class {
+                Class::Job => Err(refuse(Reason::Unexpected, t)),
+                _ => {
+                    let (_, next) = statement_of(file, 0, clause, t)?;
+                    Ok(Some(next))
+                }
+            }
+        }
     }
-    if END < t.class {
-        return Err(refuse(refusal_reason(t.class), t));
-    }
-    if k == STATEMENTS as usize {
-        return Err(refuse(Reason::TooManyStatements, t));
-    }
-    if t.class == JOB {
-        return Err(refuse(Reason::Unexpected, t));
-    }
-    let (_, next) = statement_of(file, 0, clause, t)?;
-    Ok(Some(next))
 }
 
 // The statements from the place at on, after k statements, until the file ends or the block is full.

@@ -7,7 +7,7 @@ ghost use Rattle.decimal.specs.Digits.{value};
 ghost use Rattle.number.specs.Number.{digits_of, scale_of, signed_of, number_of};
 
 // mantissa / 10^scale
-#[derive(Clone, Copy)]
+#[derive(Clone, Copy, Debug, PartialEq, Eq, Hash)]
 pub struct Number {
     pub mantissa: i64,
     pub scale: u32,

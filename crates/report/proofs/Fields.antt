@@ -11,11 +11,9 @@ use Rattle.field.specs.Part.{part}
 use Rattle.field.proofs.Parts.{head_at, part_is}
 use Rattle.scan.specs.Kinds.{is_digit, is_letter, is_word_byte}
 use Rattle.scan.proofs.Runs.{run_stop, run_past}
-use Rattle.word.specs.Word.{is_name, word_read}
+use Rattle.word.specs.Word.{WordRead, is_name, word_read}
 use Rattle.word.specs.declared.Word.{Word}
 use Rattle.word.specs.declared.Word.TheVariants.{Job, Response, Upload, Download, GetInfo, Abort, Report, Event, Start, Active, Immediate, Other, Name as name, TimeGe}
-use Rattle.word.specs.declared.WordRead.{WordRead}
-use Rattle.word.specs.declared.WordRead.TheVariants.{Is, NoWord}
 use Rattle.word.proofs.Words.{ends_after}
 use Rattle.word.proofs.Alone.{name_goes_on, name_alone}
 use Rattle.token.specs.Token.{WholeString, content_end, is_text_at, content_at}
@@ -84,12 +82,12 @@ module _ (s : List ℕ) (i : ℕ) where
   unfolding name_at
   name_found e h = go (is_letter (get_or s i 0)) refl (word_read s i) refl h
     where
-      of_word : is_letter (get_or s i 0) ≡ true → (w : Word) (b : ℕ) → word_read s i ≡ Is w b → (t : Bool) → is_name w ≡ t → cond t (Some b) None ≡ Some e
+      of_word : is_letter (get_or s i 0) ≡ true → (w : Word) (b : ℕ) → word_read s i ≡ Some (w, b) → (t : Bool) → is_name w ≡ t → cond t (Some b) None ≡ Some e
           → Found Name s i e
       of_word l w b r false n x = absurd (none-some _ x)
       of_word l w b r true n x =
           let j : b ≡ e = cc in
-          let k : word_read s i ≡ Is name e = r ∙ rw (the_name w n, j) in
+          let k : word_read s i ≡ Some (name, e) = r ∙ rw (the_name w n, j) in
           let room = in_range_lem s i is_letter i refl l in
           let bounds : (i < e) × (e ≤ length s) = rw k at (ends_after s i room l) in
           record {
@@ -100,8 +98,8 @@ module _ (s : List ℕ) (i : ℕ) where
 
       go : (t : Bool) → is_letter (get_or s i 0) ≡ t → (r : WordRead) → word_read s i ≡ r → cond t (name_of r) None ≡ Some e → Found Name s i e
       go false l r q x = absurd (none-some _ x)
-      go true l NoWord q x = absurd (none-some _ x)
-      go true l (Is w b) q x = of_word l w b q (is_name w) refl x
+      go true l None q x = absurd (none-some _ x)
+      go true l (Some (w, b)) q x = of_word l w b q (is_name w) refl x
 
   string_found : (e : ℕ) → string_end s i ≡ Some e → Found Value s i e
   unfolding string_end

@@ -11,10 +11,8 @@ use lib.ListN.{length, get_or, get_or-eq_default}
 use Rattle.counts.specs.Limits.{text_bytes, number_digits}
 use Rattle.scan.specs.Kinds.{is_digit, is_letter}
 use Rattle.scan.specs.Run.{run_end}
-use Rattle.word.specs.Word.{is_name, word_read}
+use Rattle.word.specs.Word.{WordRead, is_name, word_read}
 use Rattle.word.specs.declared.Word.{Word}
-use Rattle.word.specs.declared.WordRead.{WordRead}
-use Rattle.word.specs.declared.WordRead.TheVariants.{Is, NoWord}
 use Rattle.token.specs.Token.{content_end, is_text_at}
 use Rattle.report.specs.Reading.{name_of, name_at, figures_at, numeral_at, string_end, value_at, cell_at}
 use Rattle.std.specs.declared.option.Option.{Option}
@@ -32,14 +30,14 @@ module _ (s : List ℕ) (i : ℕ) where
     unfolding name_at
     word r w t is e = rw (sym letter ∙ t) (ap name_of (sym e ∙ is))
 
-    pub no_word : (r : WordRead) → l ≡ true → r ≡ word_read s i → r ≡ NoWord → None ≡ name_at s i
-    no_word r t is e = word r NoWord t is e
+    pub no_word : (r : WordRead) → l ≡ true → r ≡ word_read s i → r ≡ None → None ≡ name_at s i
+    no_word r t is e = word r None t is e
 
-    pub a_name : (r : WordRead) (w : Word) (end : ℕ) (n : Bool) → l ≡ true → r ≡ word_read s i → r ≡ Is w end → n ≡ is_name w → n ≡ true → Some end ≡ name_at s i
-    a_name r w end n t is e name q = sym (rw (sym name ∙ q)) ∙ word r (Is w end) t is e
+    pub a_name : (r : WordRead) (w : Word) (end : ℕ) (n : Bool) → l ≡ true → r ≡ word_read s i → r ≡ Some (w, end) → n ≡ is_name w → n ≡ true → Some end ≡ name_at s i
+    a_name r w end n t is e name q = sym (rw (sym name ∙ q)) ∙ word r (Some (w, end)) t is e
 
-    pub no_name : (r : WordRead) (w : Word) (end : ℕ) (n : Bool) → l ≡ true → r ≡ word_read s i → r ≡ Is w end → n ≡ is_name w → n ≡ false → None ≡ name_at s i
-    no_name r w end n t is e name q = sym (rw (sym name ∙ q)) ∙ word r (Is w end) t is e
+    pub no_name : (r : WordRead) (w : Word) (end : ℕ) (n : Bool) → l ≡ true → r ≡ word_read s i → r ≡ Some (w, end) → n ≡ is_name w → n ≡ false → None ≡ name_at s i
+    no_name r w end n t is e name q = sym (rw (sym name ∙ q)) ∙ word r (Some (w, end)) t is e
 
     pub no_letter : l ≡ false → None ≡ name_at s i
     unfolding name_at

@@ -6,9 +6,7 @@ use Rattle.counts.specs.Result.{Result}
 use Rattle.counts.specs.Result.Result.{refused, done}
 use Rattle.scan.specs.Kinds.{is_digit, is_letter}
 use Rattle.scan.specs.Run.{run_end}
-use Rattle.word.specs.Word.{is_name, word_read}
-use Rattle.word.specs.declared.WordRead.{WordRead}
-use Rattle.word.specs.declared.WordRead.TheVariants.{Is, NoWord}
+use Rattle.word.specs.Word.{WordRead, is_name, word_read}
 use Rattle.token.specs.Token.{content_end, is_text_at}
 use Rattle.delimited.specs.Lines.{is_delimiter}
 use Rattle.delimited.specs.Separators.{separator_at, on_separator}
@@ -21,8 +19,8 @@ use Rattle.std.specs.declared.result.Result.TheVariants.{Ok, Err}
 -- ---- a field: the place after it
 
 abbrev pub name_of : WordRead → Option ℕ
-name_of (Is w e) = cond (is_name w) (Some e) None
-name_of NoWord = None
+name_of (Some (w, e)) = cond (is_name w) (Some e) None
+name_of None = None
 
 unfoldable pub name_at : List ℕ → ℕ → Option ℕ
 name_at s i = cond (is_letter (get_or s i 0)) (name_of (word_read s i)) None

@@ -5,7 +5,7 @@ use Rattle.counts.specs.Limits.{columns}
 use Rattle.scan.specs.Kinds.{is_letter}
 use Rattle.word.specs.Word.{word_read}
 use Rattle.word.specs.declared.Word.TheVariants.{Name as name}
-use Rattle.word.specs.declared.WordRead.TheVariants.{Is}
+use Rattle.std.specs.declared.option.Option.TheVariants.{Some, None}
 use Rattle.token.specs.Token.{WholeString}
 use Rattle.number.specs.Number.{Numeral}
 use Rattle.delimited.specs.Lines.{line, lines, Each, cells_of}
@@ -13,7 +13,7 @@ use Rattle.delimited.specs.Lines.{line, lines, Each, cells_of}
 -- 01: "A name is a word that isn't reserved.": the bytes are one word, and it is a name
 pub record Name (bytes : List ℕ) : Type 0 where
   pub letter : is_letter (get_or bytes 0 0) ≡ true
-  pub word : word_read bytes 0 ≡ Is name (length bytes)
+  pub word : word_read bytes 0 ≡ Some (name, length bytes)
 
 -- "A value is a number or a string as in 01": the bytes are one
 pub data Value (bytes : List ℕ) : Type 0 where

@@ -12,7 +12,7 @@ use counts::{COLUMNS, NUMBER_DIGITS, Reason, Refusal, TEXT_BYTES};
 use delimited::{Separator, is_delimiter, separator_at};
 use field::byte_at;
 use scan::{DIGIT, TEXT, is_letter, run_end};
-use word::{WordRead, is_name, word_at};
+use word::{is_name, word_at};
 
 // The name at i: the place after it.
 fn name_at(s: &[u8], i: usize) -> Option<usize>
@@ -22,7 +22,7 @@ fn name_at(s: &[u8], i: usize) -> Option<usize>
         return None;
     }
     match word_at(s, i) {
-        WordRead::Is(w, end) if is_name(w) => Some(end),
+        Some((w, end)) if is_name(w) => Some(end),
         _ => None,
     }
 }

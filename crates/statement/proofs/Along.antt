@@ -6,7 +6,7 @@ use mathlib.Core.List.{List, [], ◌∷◌}
 use native.Mathlib.Omega.{arith}
 use borrow.Author.Tests.{ne_eqb}
 use lib.Dec.{eqb}
-use Rattle.laws.proofs.Choose.{and_left, and_right, choose}
+use Rattle.laws.proofs.Choose.{and_left, and_right}
 use Rattle.counts.specs.Refusals.{unexpected, not_real}
 use Rattle.counts.specs.Result.Result.{refused, done as whole}
 use Rattle.grammar.specs.declared.StartClause.{StartClause}
@@ -19,8 +19,9 @@ use Rattle.grammar.proofs.Apart.{is_class_lem, class_below, every, at_point}
 use Rattle.token.specs.declared.Why.{Why}
 use Rattle.item.specs.Tokens.{next_item}
 use Rattle.item.specs.Tokens.Next.{item, ended, no_token_next}
-use Rattle.item.specs.Items.{end_no, no_token_no, item_at}
+use Rattle.item.specs.Items.{code_no, end_no, no_token_no, item_at}
 use Rattle.item.specs.declared.Item.{Item}
+use Rattle.item.proofs.Classes.{by_class}
 use Rattle.item.proofs.Shows.{Shows, shows, no_token_numbers, token_number}
 use Rattle.item.proofs.Shows.Shows.{a_token, the_end, no_token_here}
 use Rattle.statement.specs.declared.Statement.{Statement}
@@ -47,7 +48,7 @@ pick_alike : (q : Point) (t : Item) (h : Held q) (r : StatementRead) (k m : (p :
     → pick q es ws t h k r ≡ pick q es ws t h m r
 pick_alike q t h r k m test a [] ws l = refl
 pick_alike q t h r k m test a (e ∷ es) ws l =
-    ap₂ (cond (eqb t.class (class_no e.class))) (a e.to (ws.0 t h) (and_left _ _ l))
+    ap₂ (cond (eqb (code_no t.class) (class_no e.class))) (a e.to (ws.0 t h) (and_left _ _ l))
     (pick_alike q t h r k m test a es ws.1 (and_right (test e.to) _ l))
 
 pub on_alike : (q : Point) (t : Item) (h : Held q) (k m : (p : Point) → Held p → StatementRead) → ((p : Point) (x : Held p) → k p x ≡ m p x)
@@ -82,7 +83,7 @@ is_whole base s x at = from base s done x at
 pub reads_whole : (base : ℕ) (s : List ℕ) (x : Statement) (at : ℕ) (r : StatementRead) → r ≡ whole (x, at) → r ≡ read_from base s done x at
 reads_whole base s x at r e = e ∙ sym (is_whole base s x at)
 
-pub ruleset along = (choose, reads_whole)
+pub ruleset along = (by_class, reads_whole)
 
 -- ---- what stands next in the file s
 
@@ -107,7 +108,7 @@ is_not true e = sym e
 is_not false e = refl
 
 module _ (q : Point) (t : Item) (h : Held q) (k : (p : Point) → Held p → StatementRead) (r : StatementRead) where
-  pick_edge : (c : Class) → t.class ≡ class_no c → (es : List Edge) (ws : Each (Adds q) es) → alive es ≡ true
+  pick_edge : (c : Class) → code_no t.class ≡ class_no c → (es : List Edge) (ws : Each (Adds q) es) → alive es ≡ true
       → pick q es ws t h k r ≡ cond (is_point (look c es) dead) r (k (look c es) (after_edge q c es ws t h))
   pick_edge c ec [] ws l = refl
   pick_edge c ec (e ∷ es) ws l =
@@ -121,7 +122,7 @@ module _ (q : Point) (t : Item) (h : Held q) (k : (p : Point) → Held p → Sta
       go later true = rw (is_not (is_point e.to dead) (and_left _ _ l))
       go later false = later
 
-  pick_none : ((c : Class) → eqb t.class (class_no c) ≡ false) → (es : List Edge) (ws : Each (Adds q) es) → pick q es ws t h k r ≡ r
+  pick_none : ((c : Class) → eqb (code_no t.class) (class_no c) ≡ false) → (es : List Edge) (ws : Each (Adds q) es) → pick q es ws t h k r ≡ r
   pick_none f [] ws = refl
   pick_none f (e ∷ es) ws = rw (f e.class) (pick_none f es ws.1)
 
@@ -134,7 +135,7 @@ at_date : (a b : Bool) (x y : StatementRead) → cond (not a && false) x (cond (
 at_date a true x y = rw (and-false (not a))
 at_date a false x y = rw (and-false (not a))
 
-refuses : (q : Point) (t : Item) (c : Class) → t.class ≡ class_no c → is_point (step q c) dead ≡ true
+refuses : (q : Point) (t : Item) (c : Class) → code_no t.class ≡ class_no c → is_point (step q c) dead ≡ true
     → otherwise q t ≡ cond (is_point (step q (shape c)) dead) (refuse unexpected t) (refuse not_real t)
 refuses q t c ec d = rw (ec, token_number c) (go (is_class c unreal_time) (is_class c unreal_date) refl refl)
   where
@@ -149,8 +150,8 @@ refuses q t c ec d = rw (ec, token_number c) (go (is_class c unreal_time) (is_cl
     go false false e f = rw (d, and-false (not (is_point (step q time) dead)), and-false (not (is_point (step q date) dead)))
 
 -- a number that no class has
-outside : (t : Item) (n : ℕ) → t.class ≡ n → 22 ≤ n → (c : Class) → eqb t.class (class_no c) ≡ false
-outside t n e l c = ne_eqb t.class (class_no c) (λ x. omega (arith, class_below c))
+outside : (t : Item) (n : ℕ) → code_no t.class ≡ n → 22 ≤ n → (c : Class) → eqb (code_no t.class) (class_no c) ≡ false
+outside t n e l c = ne_eqb (code_no t.class) (class_no c) (λ x. omega (arith, class_below c))
 
 -- the token u at the point q, where r is read after it
 abbrev pub on_placed : Point → Placed → StatementRead → StatementRead
@@ -182,7 +183,7 @@ module _ (s : List ℕ) (q : Point) (h : Held q) (o : is_point q done ≡ false)
       → read_from 0 s q h i ≡ on_placed q u (read_from 0 s (step q u.class) (after q u.class (item_at 0 s i) h) u.end)
   on_token u e = opened ∙ shown (item_at 0 s i) u (rw e at (shows s i))
 
-  no_edge : ((c : Class) → eqb (item_at 0 s i).class (class_no c) ≡ false) → read_from 0 s q h i ≡ unexpected_at (item_at 0 s i)
+  no_edge : ((c : Class) → eqb (code_no (item_at 0 s i).class) (class_no c) ≡ false) → read_from 0 s q h i ≡ unexpected_at (item_at 0 s i)
   no_edge f =
       opened
       ∙ pick_none q (item_at 0 s i) h (rest (item_at 0 s i)) (otherwise q (item_at 0 s i)) f (next q) (adds q)

@@ -13,7 +13,7 @@ use Rattle.grammar.specs.declared.StartClause.TheVariants.{Required, Optional}
 use Rattle.grammar.specs.Grammar.{Class, Point, Edge, Each, no_clause, next, step, class_no, is_point}
 use Rattle.grammar.specs.Grammar.Class.{number, date, unreal_date, time, unreal_time}
 use Rattle.grammar.specs.Grammar.Point.{first, between, statement, job_name, job_response, job_file, move_file, move_source, move_start, start_kind, start_time, start_date, start_operator, start_value, info_file, abort_kind, abort_name, ending, done, dead}
-use Rattle.item.specs.Items.{refusal_no, item_at}
+use Rattle.item.specs.Items.{code_no, refusal_no, item_at}
 use Rattle.item.specs.declared.Item.{Item}
 use Rattle.statement.specs.declared.Part.{Part}
 use Rattle.statement.specs.declared.Source.{Source}
@@ -44,7 +44,7 @@ refuse n t = refused n t.place
 
 -- what may not stand: the end of the file, no token, or a token
 abbrev pub unexpected_at : Item → StatementRead
-unexpected_at t = refuse (refusal_no t.class) t
+unexpected_at t = refuse (refusal_no (code_no t.class)) t
 
 -- the class may stand at the point
 abbrev pub may : Point → Class → Bool
@@ -53,8 +53,8 @@ may q c = not (is_point (step q c) dead)
 -- a token whose class may not stand at the point; 5: "right shape of time or date where one may stand, but not a real one"
 abbrev pub otherwise : Point → Item → StatementRead
 otherwise q t =
-    cond (may q time && eqb t.class (class_no unreal_time)) (refuse not_real t)
-    (cond (may q date && eqb t.class (class_no unreal_date)) (refuse not_real t) (unexpected_at t))
+    cond (may q time && eqb (code_no t.class) (class_no unreal_time)) (refuse not_real t)
+    (cond (may q date && eqb (code_no t.class) (class_no unreal_date)) (refuse not_real t) (unexpected_at t))
 
 -- ---- what is held
 
@@ -155,7 +155,7 @@ adds dead = tt
 -- along the edge of the token's class, or else what is refused
 abbrev pub pick : (q : Point) (es : List Edge) → Each (Adds q) es → Item → Held q → ((p : Point) → Held p → StatementRead) → StatementRead → StatementRead
 pick q [] ws t h k r = r
-pick q (e ∷ es) ws t h k r = cond (eqb t.class (class_no e.class)) (k e.to (ws.0 t h)) (pick q es ws.1 t h k r)
+pick q (e ∷ es) ws t h k r = cond (eqb (code_no t.class) (class_no e.class)) (k e.to (ws.0 t h)) (pick q es ws.1 t h k r)
 
 -- the token t at the point q, and the rest by k
 abbrev pub on_item : (q : Point) → Held q → Item → ((p : Point) → Held p → StatementRead) → StatementRead

@@ -4,17 +4,13 @@
 ghost use Rattle.std.specs.Prelude.{◌≡◌};
 ghost use Rattle.counts.specs.Refusals.{number_of};
 ghost use Rattle.counts.specs.Result.{refused_as};
-ghost use Rattle.item.specs.Items.{Seen};
+ghost use Rattle.item.specs.Items.{code_no, Seen};
 ghost use Rattle.grammar.specs.Grammar.Point.{ending, job_name, job_response, job_file, move_file, move_source, move_start, start_kind, start_time, start_date, start_operator, start_value, info_file, abort_kind, abort_name};
 ghost use Rattle.statement.specs.Statement.{refuse, unexpected_at, part_of, condition, transferred, transfer, is_number_no, paper_read, read_from, statement_of};
 
 use counts::{Reason, Refusal};
 use grammar::StartClause;
-use item::{
-    ABORT, ACTIVE, DATE, DOWNLOAD, EVENT, GETINFO, IMMEDIATE, Item, JOB, NAME, NUMBER, OPERATOR,
-    REPORT, RESPONSE, SEMICOLON, START, STRING, TIME, TIME_GE, UNREAL_DATE, UNREAL_TIME, UPLOAD,
-    next_item, refusal_reason,
-};
+use item::{Class, Item, next_item, refusal_reason};
 use number::Number;
 use token::Operator;
 
@@ -165,10 +161,10 @@ fn ending(s: &[u8], base: usize, at: usize, x: Statement) -> Result<(Statement, 
     ensures { paper_read result ≡ read_from base s.now ending x at }
 {
     let t = next_item(s, base, at);
-    if t.class == SEMICOLON {
-        return Ok((x, t.next));
+    match t.class {
+        Class::Semicolon => Ok((x, t.next)),
+        _ => Err(unexpected(t)),
     }
-    Err(unexpected(t))
 }
 
 // JOB, name, RESPONSE: the file spec.
@@ -177,14 +173,16 @@ fn job_file(s: &[u8], base: usize, at: usize, name: Part) -> Result<(Statement, 
     ensures { paper_read result ≡ read_from base s.now job_file name at }
 {
     let t = next_item(s, base, at);
-    if t.class == STRING {
-        let x = Statement::Job {
-            name,
-            response: t.place,
-        };
-        return ending(s, base, t.next, x);
+    match t.class {
+        Class::Text => {
+            let x = Statement::Job {
+                name,
+                response: t.place,
+            };
+            ending(s, base, t.next, x)
+        }
+        _ => Err(unexpected(t)),
     }
-    Err(unexpected(t))
 }
 
 // JOB, name: RESPONSE.
@@ -193,10 +191,10 @@ fn job_response(s: &[u8], base: usize, at: usize, name: Part) -> Result<(Stateme
     ensures { paper_read result ≡ read_from base s.now job_response name at }
 {
     let t = next_item(s, base, at);
-    if t.class == RESPONSE {
-        return job_file(s, base, t.next, name);
+    match t.class {
+        Class::Response => job_file(s, base, t.next, name),
+        _ => Err(unexpected(t)),
     }
-    Err(unexpected(t))
 }
 
 // JOB: its name.
@@ -205,17 +203,17 @@ fn job_name(s: &[u8], base: usize, at: usize) -> Result<(Statement, usize), Refu
     ensures { paper_read result ≡ read_from base s.now job_name tt at }
 {
     let t = next_item(s, base, at);
-    if t.class == NAME {
-        return job_response(s, base, t.next, part_of(t));
+    match t.class {
+        Class::Name => job_response(s, base, t.next, part_of(t)),
+        _ => Err(unexpected(t)),
     }
-    Err(unexpected(t))
 }
 
 // Whether a class is a number's: eight bare digits are a number too.
-fn is_number(class: u8) -> bool
-    ensures { result ≡ is_number_no class }
+fn is_number(class: Class) -> bool
+    ensures { result ≡ is_number_no (code_no class) }
 {
-    (class == NUMBER) | (class == DATE) | (class == UNREAL_DATE)
+    matches!(class, Class::Number | Class::Date | Class::UnrealDate)
 }
 
 // START name, operator: the number or string.
@@ -236,43 +234,57 @@ fn start_value(
         let start = start_when(name, o, Operand::Number(n));
         return ending(s, base, t.next, transferred(m, start));
     }
-    if t.class == STRING {
-        let start = start_when(name, o, Operand::Text(t.place));
-        return ending(s, base, t.next, transferred(m, start));
+    match t.class {
+        Class::Text => {
+            let start = start_when(name, o, Operand::Text(t.place));
+            ending(s, base, t.next, transferred(m, start))
+        }
+        _ => Err(unexpected(t)),
     }
-    Err(unexpected(t))
 }
 
 // START name: the operator.
-fn start_operator(s: &[u8], base: usize, at: usize, m: Transfer, name: Part) -> Result<(Statement, usize), Refusal>
+fn start_operator(
+    s: &[u8],
+    base: usize,
+    at: usize,
+    m: Transfer,
+    name: Part,
+) -> Result<(Statement, usize), Refusal>
     requires { Seen base s.now at }
     ensures { paper_read result ≡ read_from base s.now start_operator (m, name) at }
 {
     let t = next_item(s, base, at);
-    if t.class == OPERATOR {
-        let o = t.operator;
-        return start_value(s, base, t.next, m, name, o);
+    match t.class {
+        Class::Operator => {
+            let o = t.operator;
+            start_value(s, base, t.next, m, name, o)
+        }
+        _ => Err(unexpected(t)),
     }
-    Err(unexpected(t))
 }
 
 // START TIME>= time: an optional date.
-fn start_date(s: &[u8], base: usize, at: usize, m: Transfer, clock: u32) -> Result<(Statement, usize), Refusal>
+fn start_date(
+    s: &[u8],
+    base: usize,
+    at: usize,
+    m: Transfer,
+    clock: u32,
+) -> Result<(Statement, usize), Refusal>
     requires { Seen base s.now at }
     ensures { paper_read result ≡ read_from base s.now start_date (m, clock) at }
 {
     let t = next_item(s, base, at);
-    if t.class == DATE {
-        let start = Start::At(clock, Some(t.value));
-        return ending(s, base, t.next, transferred(m, start));
+    match t.class {
+        Class::Date => {
+            let start = Start::At(clock, Some(t.value));
+            ending(s, base, t.next, transferred(m, start))
+        }
+        Class::Semicolon => Ok((transferred(m, Start::At(clock, None)), t.next)),
+        Class::UnrealDate => Err(refuse(Reason::NotReal, t)),
+        _ => Err(unexpected(t)),
     }
-    if t.class == SEMICOLON {
-        return Ok((transferred(m, Start::At(clock, None)), t.next));
-    }
-    if t.class == UNREAL_DATE {
-        return Err(refuse(Reason::NotReal, t));
-    }
-    Err(unexpected(t))
 }
 
 // START TIME>=: the time.
@@ -281,13 +293,11 @@ fn start_time(s: &[u8], base: usize, at: usize, m: Transfer) -> Result<(Statemen
     ensures { paper_read result ≡ read_from base s.now start_time m at }
 {
     let t = next_item(s, base, at);
-    if t.class == TIME {
-        return start_date(s, base, t.next, m, t.value);
+    match t.class {
+        Class::Time => start_date(s, base, t.next, m, t.value),
+        Class::UnrealTime => Err(refuse(Reason::NotReal, t)),
+        _ => Err(unexpected(t)),
     }
-    if t.class == UNREAL_TIME {
-        return Err(refuse(Reason::NotReal, t));
-    }
-    Err(unexpected(t))
 }
 
 // START: what it waits for.
@@ -296,35 +306,33 @@ fn start_kind(s: &[u8], base: usize, at: usize, m: Transfer) -> Result<(Statemen
     ensures { paper_read result ≡ read_from base s.now start_kind m at }
 {
     let t = next_item(s, base, at);
-    if t.class == IMMEDIATE {
-        return ending(s, base, t.next, transferred(m, Start::Immediate));
+    match t.class {
+        Class::Immediate => ending(s, base, t.next, transferred(m, Start::Immediate)),
+        Class::TimeGe => start_time(s, base, t.next, m),
+        Class::Name => start_operator(s, base, t.next, m, part_of(t)),
+        _ => Err(unexpected(t)),
     }
-    if t.class == TIME_GE {
-        return start_time(s, base, t.next, m);
-    }
-    if t.class == NAME {
-        return start_operator(s, base, t.next, m, part_of(t));
-    }
-    Err(unexpected(t))
 }
 
 // A start clause, or the ; that stands where a missing one would begin.
-fn move_start(s: &[u8], base: usize, at: usize, clause: StartClause, m: Transfer) -> Result<(Statement, usize), Refusal>
+fn move_start(
+    s: &[u8],
+    base: usize,
+    at: usize,
+    clause: StartClause,
+    m: Transfer,
+) -> Result<(Statement, usize), Refusal>
     requires { Seen base s.now at }
     ensures { paper_read result ≡ read_from base s.now (move_start clause) m at }
 {
     let t = next_item(s, base, at);
-    if t.class == START {
-        return start_kind(s, base, t.next, m);
-    }
-    match clause {
-        StartClause::Required => Err(unexpected(t)),
-        StartClause::Optional => {
-            if t.class == SEMICOLON {
-                return Ok((transferred(m, Start::Immediate), t.next));
-            }
-            Err(unexpected(t))
-        }
+    match t.class {
+        Class::Start => start_kind(s, base, t.next, m),
+        Class::Semicolon => match clause {
+            StartClause::Required => Err(unexpected(t)),
+            StartClause::Optional => Ok((transferred(m, Start::Immediate), t.next)),
+        },
+        _ => Err(unexpected(t)),
     }
 }
 
@@ -341,46 +349,48 @@ fn move_source(
     ensures { paper_read result ≡ read_from base s.now (move_source clause) (download, file) at }
 {
     let t = next_item(s, base, at);
-    if t.class == ACTIVE {
-        return move_start(
+    match t.class {
+        Class::Active => move_start(
             s,
             base,
             t.next,
             clause,
             transfer_of(download, file, Source::Active),
-        );
-    }
-    if t.class == STRING {
-        return move_start(
+        ),
+        Class::Text => move_start(
             s,
             base,
             t.next,
             clause,
             transfer_of(download, file, Source::File(t.place)),
-        );
-    }
-    if t.class == NAME {
-        return move_start(
+        ),
+        Class::Name => move_start(
             s,
             base,
             t.next,
             clause,
             transfer_of(download, file, Source::Name(part_of(t))),
-        );
+        ),
+        _ => Err(unexpected(t)),
     }
-    Err(unexpected(t))
 }
 
 // UPLOAD or DOWNLOAD: the file spec.
-fn move_file(s: &[u8], base: usize, at: usize, clause: StartClause, download: bool) -> Result<(Statement, usize), Refusal>
+fn move_file(
+    s: &[u8],
+    base: usize,
+    at: usize,
+    clause: StartClause,
+    download: bool,
+) -> Result<(Statement, usize), Refusal>
     requires { Seen base s.now at }
     ensures { paper_read result ≡ read_from base s.now (move_file clause) download at }
 {
     let t = next_item(s, base, at);
-    if t.class == STRING {
-        return move_source(s, base, t.next, clause, download, t.place);
+    match t.class {
+        Class::Text => move_source(s, base, t.next, clause, download, t.place),
+        _ => Err(unexpected(t)),
     }
-    Err(unexpected(t))
 }
 
 // GETINFO: the file spec.
@@ -389,26 +399,33 @@ fn info_file(s: &[u8], base: usize, at: usize) -> Result<(Statement, usize), Ref
     ensures { paper_read result ≡ read_from base s.now info_file tt at }
 {
     let t = next_item(s, base, at);
-    if t.class == STRING {
-        return ending(s, base, t.next, Statement::GetInfo { file: t.place });
+    match t.class {
+        Class::Text => ending(s, base, t.next, Statement::GetInfo { file: t.place }),
+        _ => Err(unexpected(t)),
     }
-    Err(unexpected(t))
 }
 
 // ABORT, REPORT or EVENT: the name.
-fn abort_name(s: &[u8], base: usize, at: usize, what: Aborted) -> Result<(Statement, usize), Refusal>
+fn abort_name(
+    s: &[u8],
+    base: usize,
+    at: usize,
+    what: Aborted,
+) -> Result<(Statement, usize), Refusal>
     requires { Seen base s.now at }
     ensures { paper_read result ≡ read_from base s.now abort_name what at }
 {
     let t = next_item(s, base, at);
-    if t.class == NAME {
-        let x = Statement::Abort {
-            what,
-            name: part_of(t),
-        };
-        return ending(s, base, t.next, x);
+    match t.class {
+        Class::Name => {
+            let x = Statement::Abort {
+                what,
+                name: part_of(t),
+            };
+            ending(s, base, t.next, x)
+        }
+        _ => Err(unexpected(t)),
     }
-    Err(unexpected(t))
 }
 
 // ABORT: REPORT or EVENT.
@@ -417,34 +434,29 @@ fn abort_kind(s: &[u8], base: usize, at: usize) -> Result<(Statement, usize), Re
     ensures { paper_read result ≡ read_from base s.now abort_kind tt at }
 {
     let t = next_item(s, base, at);
-    if t.class == REPORT {
-        return abort_name(s, base, t.next, Aborted::Report);
+    match t.class {
+        Class::Report => abort_name(s, base, t.next, Aborted::Report),
+        Class::Event => abort_name(s, base, t.next, Aborted::Event),
+        _ => Err(unexpected(t)),
     }
-    if t.class == EVENT {
-        return abort_name(s, base, t.next, Aborted::Event);
-    }
-    Err(unexpected(t))
 }
 
 // A statement of any kind, from its first token t on.
-pub fn statement_of(s: &[u8], base: usize, clause: StartClause, t: Item) -> Result<(Statement, usize), Refusal>
+pub fn statement_of(
+    s: &[u8],
+    base: usize,
+    clause: StartClause,
+    t: Item,
+) -> Result<(Statement, usize), Refusal>
     requires { Seen base s.now t.next }
     ensures { paper_read result ≡ statement_of base s.now clause t }
 {
-    if t.class == JOB {
-        return job_name(s, base, t.next);
+    match t.class {
+        Class::Job => job_name(s, base, t.next),
+        Class::Upload => move_file(s, base, t.next, clause, false),
+        Class::Download => move_file(s, base, t.next, clause, true),
+        Class::GetInfo => info_file(s, base, t.next),
+        Class::Abort => abort_kind(s, base, t.next),
+        _ => Err(unexpected(t)),
     }
-    if t.class == UPLOAD {
-        return move_file(s, base, t.next, clause, false);
-    }
-    if t.class == DOWNLOAD {
-        return move_file(s, base, t.next, clause, true);
-    }
-    if t.class == GETINFO {
-        return info_file(s, base, t.next);
-    }
-    if t.class == ABORT {
-        return abort_kind(s, base, t.next);
-    }
-    Err(unexpected(t))
 }

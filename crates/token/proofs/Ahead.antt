@@ -15,10 +15,9 @@ use Rattle.scan.specs.Run.{run_end, blank_end}
 use Rattle.scan.proofs.Runs.{run_some, run_inside}
 use Rattle.scan.proofs.Settled.{Onward, onward}
 use Rattle.token.specs.Token.{content_end, content_fits, word_token, string_at, is_text_at, is_time_at, is_number_at, NumericRun, shaped_at, numeric_at, sign_at, token_at, next_token, Short}
-use Rattle.word.specs.Word.{word_read}
+use Rattle.word.specs.Word.{WordRead, word_read}
 use Rattle.word.specs.declared.Word.{Word as ReservedOrName}
-use Rattle.word.specs.declared.WordRead.{WordRead}
-use Rattle.word.specs.declared.WordRead.TheVariants.{Is, NoWord}
+use Rattle.std.specs.declared.option.Option.TheVariants.{Some, None}
 use Rattle.word.proofs.Words.{EndsAfter, ends_after}
 use Rattle.token.specs.declared.Operator.{Operator}
 use Rattle.token.specs.declared.Why.{Why}
@@ -82,8 +81,8 @@ module _ (s : List ℕ) (i : ℕ) where
       go false l = absurd (true≢false (sym e ∙ ap p (get_or-eq_default s 0 (ltb-false _ _ l)) ∙ z))
 
   word : i < length s → (r : WordRead) → EndsAfter s i r → Ahead s i (word_token i r)
-  word l (Is w b) h = a_word {b = b} (omega arith)
-  word l NoWord h = no_token_here l
+  word l (Some (w, b)) h = a_word {b = b} (omega arith)
+  word l None h = no_token_here l
 
   -- a number has at most 16 digits and a point, and a sign before its first digit
   number_short : (d e : ℕ) → is_number_at s d e ≡ true → e ≤ d + number_digits + 1

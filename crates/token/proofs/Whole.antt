@@ -1,5 +1,6 @@
 -- A whole string stands at a place exactly where the test says so, its content is the one shown, and it is what a string token is. Assumes
 -- nothing.
+use Rattle.word.specs.Word.{WordRead}
 use Prim.Native.Nat.{ℕ, suc, ◌+◌, ◌-◌, ◌≤◌}
 use mathlib.Core.Path.{◌≡◌, refl, sym, ◌∙◌, ap}
 use mathlib.Core.Bool.{Bool, true, false, false≢true, cond, ◌&&◌, ◌||◌}
@@ -17,8 +18,7 @@ use Rattle.scan.specs.Kinds.{is_digit, is_letter, is_text_byte}
 use Rattle.scan.specs.Run.{run, run_end}
 use Rattle.scan.proofs.Runs.{run_fits, run_passes, run_whole}
 use Rattle.token.specs.Token.{ContentByte, WholeString, content_end, content_fits, is_text_at, content_at, word_token, string_at, shaped_at, numeric_at, sign_at, token_at}
-use Rattle.word.specs.declared.WordRead.{WordRead}
-use Rattle.word.specs.declared.WordRead.TheVariants.{Is, NoWord}
+use Rattle.std.specs.declared.option.Option.TheVariants.{Some, None}
 use Rattle.token.specs.declared.Token.{Token}
 use Rattle.token.specs.declared.Token.TheVariants.{End, NoToken, Word, Number, Time, Text, Sign, Semicolon}
 use Rattle.token.proofs.Ahead.{in_range_lem, text_inside}
@@ -156,8 +156,8 @@ last_of true true n q t h = absurd (false≢true h)
 last_of false a n q t h = absurd (false≢true h)
 
 no_word : (i : ℕ) (r : WordRead) → is_string (word_token i r) ≡ false
-no_word i (Is w e) = refl
-no_word i NoWord = refl
+no_word i (Some (w, e)) = refl
+no_word i None = refl
 
 module _ (s : List ℕ) (i : ℕ) where
   no_shape : (d : ℕ) → is_string (shaped_at s i d) ≡ false

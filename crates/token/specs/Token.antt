@@ -5,9 +5,8 @@ use mathlib.Core.List.{List, ◌∷◌, ◌++◌, Memᴰ}
 use Rattle.counts.specs.Limits.{text_bytes, number_digits}
 use Rattle.scan.specs.Kinds.{is_digit, is_letter, is_numeric_byte, is_text_byte}
 use Rattle.scan.specs.Run.{run_end, blank_end}
-use Rattle.word.specs.Word.{word_read}
-use Rattle.word.specs.declared.WordRead.{WordRead}
-use Rattle.word.specs.declared.WordRead.TheVariants.{Is, NoWord}
+use Rattle.word.specs.Word.{WordRead, word_read}
+use Rattle.std.specs.declared.option.Option.TheVariants.{Some, None}
 use Rattle.token.specs.declared.Operator.TheVariants.{Equal, NotEqual, Above, Below, AtLeast, AtMost}
 use Rattle.token.specs.declared.Why.TheVariants.{Stray, OpenString, BrokenString, Misshapen}
 use Rattle.token.specs.declared.Token.{Token}
@@ -15,8 +14,8 @@ use Rattle.token.specs.declared.Token.TheVariants.{End, NoToken, Word, Number, T
 
 -- "Word: [..] a longer run is no token": what is read from i on
 abbrev pub word_token : ℕ → WordRead → Token
-word_token i (Is w e) = Word i e w
-word_token i NoWord = NoToken Misshapen i
+word_token i (Some (w, e)) = Word i e w
+word_token i None = NoToken Misshapen i
 
 -- what a string may hold: "bytes from 32 to 254 other than 34"
 abbrev pub ContentByte : ℕ → Type 0

@@ -4,14 +4,15 @@
 ghost use Rattle.std.specs.Prelude.{◌≡◌, ◌≤◌, ◌<◌, ◌*◌, length, get_or};
 ghost use Rattle.counts.specs.Limits.{file_bytes};
 ghost use Rattle.word.specs.Word.{word_read};
+ghost use Rattle.token.specs.declared.Token.TheVariants.{Sign};
 ghost use Rattle.token.specs.Token.{word_token, string_at, is_text_at, pair_at, is_time_at, is_number_at, shaped_at, numeric_at, one_sign, sign_before_equal, sign_at, token_at, next_token};
 
 use counts::{NUMBER_DIGITS, TEXT_BYTES};
 use field::byte_at;
 use scan::{DIGIT, NUMERIC, TEXT, blank_end, digit_at, is_digit, is_letter, run_end};
-use word::{Word, WordRead, word_at};
+use word::{Word, word_at};
 
-#[derive(Clone, Copy)]
+#[derive(Clone, Copy, Debug, PartialEq, Eq, Hash)]
 pub enum Operator {
     Equal,
     NotEqual,
@@ -23,7 +24,7 @@ pub enum Operator {
 
 // Why bytes are no token: a byte that begins none; a string that meets the end of the file first; a string that meets a forbidden byte or
 // its 256th content byte first; a word that is too long or a numeric run of neither shape.
-#[derive(Clone, Copy)]
+#[derive(Clone, Copy, Debug, PartialEq, Eq, Hash)]
 pub enum Why {
     Stray,
     OpenString,
@@ -31,8 +32,9 @@ pub enum Why {
     Misshapen,
 }
 
-// A token from start up to end; the end of the file; or a place where no token stands.
-#[derive(Clone, Copy)]
+// A token from start up to end; the end of the file; or a place where no token stands: a case and no Err, since a reader takes the three alike as what
+// stands next.
+#[derive(Clone, Copy, Debug, PartialEq, Eq, Hash)]
 pub enum Token {
     End(usize),
     NoToken {
@@ -71,16 +73,16 @@ fn word_token(s: &[u8], i: usize) -> Token
     requires { (i < length s.now) × (length s.now ≤ file_bytes) }
     ensures { result ≡ word_token i (word_read s.now i) }
 {
-    let WordRead::Is(word, end) = word_at(s, i) else {
-        return Token::NoToken {
+    match word_at(s, i) {
+        Some((word, end)) => Token::Word {
+            start: i,
+            end,
+            word,
+        },
+        None => Token::NoToken {
             why: Why::Misshapen,
             place: i,
-        };
-    };
-    Token::Word {
-        start: i,
-        end,
-        word,
+        },
     }
 }
 
@@ -90,7 +92,7 @@ fn text_token(s: &[u8], i: usize) -> Token
 {
     let end = run_end(s, i + 1, TEXT);
     if end - (i + 1) <= TEXT_BYTES {
-        if byte_at(s, end) == 34 {
+        if byte_at(s, end) == b'"' {
             return Token::Text {
                 start: i,
                 end: end + 1,
@@ -118,12 +120,22 @@ pub fn is_text(s: &[u8], i: usize) -> bool
     ensures { result ≡ is_text_at s.now i }
 {
     if i < s.len() {
-        if s[i] == 34 {
+        if s[i] == b'"' {
             let end = run_end(s, i + 1, TEXT);
-            return (end - (i + 1) <= TEXT_BYTES) & (byte_at(s, end) == 34);
+            return (end - (i + 1) <= TEXT_BYTES) & (byte_at(s, end) == b'"');
         }
     }
     false
+}
+
+fn sign(operator: Operator, start: usize, end: usize) -> Token
+    ensures { result ≡ Sign operator start end }
+{
+    Token::Sign {
+        operator,
+        start,
+        end,
+    }
 }
 
 // A sign of one byte b.
@@ -132,33 +144,15 @@ fn one_sign(b: u8, i: usize) -> Token
     ensures { result ≡ one_sign b i }
 {
     let end = i + 1;
-    if b == 59 {
-        return Token::Semicolon { start: i, end };
-    }
-    if b == 61 {
-        return Token::Sign {
-            operator: Operator::Equal,
-            start: i,
-            end,
-        };
-    }
-    if b == 62 {
-        return Token::Sign {
-            operator: Operator::Above,
-            start: i,
-            end,
-        };
-    }
-    if b == 60 {
-        return Token::Sign {
-            operator: Operator::Below,
-            start: i,
-            end,
-        };
-    }
-    Token::NoToken {
-        why: Why::Stray,
-        place: i,
+    match b {
+        b';' => Token::Semicolon { start: i, end },
+        b'=' => sign(Operator::Equal, i, end),
+        b'>' => sign(Operator::Above, i, end),
+        b'<' => sign(Operator::Below, i, end),
+        _ => Token::NoToken {
+            why: Why::Stray,
+            place: i,
+        },
     }
 }
 
@@ -168,35 +162,19 @@ fn sign_before_equal(b: u8, i: usize) -> Token
     ensures { result ≡ sign_before_equal b i }
 {
     let end = i + 2;
-    if b == 33 {
-        return Token::Sign {
-            operator: Operator::NotEqual,
-            start: i,
-            end,
-        };
+    match b {
+        b'!' => sign(Operator::NotEqual, i, end),
+        b'>' => sign(Operator::AtLeast, i, end),
+        b'<' => sign(Operator::AtMost, i, end),
+        _ => one_sign(b, i),
     }
-    if b == 62 {
-        return Token::Sign {
-            operator: Operator::AtLeast,
-            start: i,
-            end,
-        };
-    }
-    if b == 60 {
-        return Token::Sign {
-            operator: Operator::AtMost,
-            start: i,
-            end,
-        };
-    }
-    one_sign(b, i)
 }
 
 fn sign_token(s: &[u8], i: usize) -> Token
     requires { (i < length s.now) × (length s.now ≤ file_bytes) }
     ensures { result ≡ sign_at s.now i }
 {
-    if byte_at(s, i + 1) == 61 {
+    if byte_at(s, i + 1) == b'=' {
         return sign_before_equal(s[i], i);
     }
     one_sign(s[i], i)
@@ -217,9 +195,9 @@ fn is_time(s: &[u8], i: usize, e: usize) -> bool
 {
     if e - i == 8 {
         return pair_at(s, i)
-            & (byte_at(s, i + 2) == 58)
+            & (byte_at(s, i + 2) == b':')
             & pair_at(s, i + 3)
-            & (byte_at(s, i + 5) == 58)
+            & (byte_at(s, i + 5) == b':')
             & pair_at(s, i + 6);
     }
     false
@@ -235,7 +213,7 @@ fn is_number(s: &[u8], d: usize, e: usize) -> bool
         return e <= d + NUMBER_DIGITS;
     }
     let f = run_end(s, m + 1, DIGIT);
-    (byte_at(s, m) == 46) & digit_at(s, m + 1) & (f == e) & (e <= d + NUMBER_DIGITS + 1)
+    (byte_at(s, m) == b'.') & digit_at(s, m + 1) & (f == e) & (e <= d + NUMBER_DIGITS + 1)
 }
 
 // A numeric run that starts at i and has its first digit at d.
@@ -260,7 +238,7 @@ fn numeric_token(s: &[u8], i: usize) -> Token
     requires { (i < length s.now) × (length s.now ≤ file_bytes) }
     ensures { result ≡ numeric_at s.now i }
 {
-    if s[i] == 45 {
+    if s[i] == b'-' {
         if digit_at(s, i + 1) {
             return shaped_token(s, i, i + 1);
         }
@@ -277,20 +255,21 @@ fn token_at(s: &[u8], i: usize) -> Token
     requires { length s.now ≤ file_bytes }
     ensures { result ≡ token_at s.now i }
 {
-    if i < s.len() {
-        let b = s[i];
-        if is_letter(b) {
-            return word_token(s, i);
-        }
-        if is_digit(b) | (b == 45) {
-            return numeric_token(s, i);
-        }
-        if b == 34 {
-            return text_token(s, i);
-        }
-        return sign_token(s, i);
+    if s.len() <= i {
+        return Token::End(i);
     }
-    Token::End(i)
+    let b = s[i];
+    if is_letter(b) {
+        return word_token(s, i);
+    }
+    if is_digit(b) {
+        return numeric_token(s, i);
+    }
+    match b {
+        b'-' => numeric_token(s, i),
+        b'"' => text_token(s, i),
+        _ => sign_token(s, i),
+    }
 }
 
 // The next token from at on.

@@ -17,10 +17,10 @@ use Rattle.field.proofs.Same.{has_then}
 use Rattle.scan.specs.Kinds.{is_word_byte}
 use Rattle.scan.specs.Run.{run, run_end}
 use Rattle.scan.proofs.Runs.{run_fits, run_passes, run_whole}
-use Rattle.word.specs.Word.{Spelling, which_of, reserved, which_word, word_read}
+use Rattle.word.specs.Word.{WordRead, Spelling, which_of, reserved, which_word, word_read}
 use Rattle.word.specs.declared.Word.{Word}
 use Rattle.word.specs.declared.Word.TheVariants.{Name, TimeGe}
-use Rattle.word.specs.declared.WordRead.TheVariants.{Is, NoWord}
+use Rattle.std.specs.declared.option.Option.TheVariants.{Some, None}
 
 -- ---- runs of a part
 
@@ -51,26 +51,28 @@ pub record NameRead (s : List ℕ) (i e : ℕ) : Type 0 where
   pub few : e ≤ i + word_bytes
   pub which : which_word s i (e - i) ≡ Name
 
-is≢ : {w v : Word} {e f : ℕ} → (w ≡ v → ⊥) → Is w e ≡ Is v f → ⊥
-is≢ n h = n (cc)
+is≢ : {w v : Word} {e f : ℕ} → (w ≡ v → ⊥) → ◌≡◌ {A = WordRead} (Some (w, e)) (Some (v, f)) → ⊥
+is≢ {w} {v} {e} {f} n h = let p : ◌≡◌ {A = Word × ℕ} (w, e) (v, f) = cc in n (ap (λ (x : Word × ℕ). x.0) p)
 
 time≢name : TimeGe ≡ Name → ⊥
 time≢name h = let z : ◌≡◌ {A = ℕ} 0 1 = cc in omega arith
 
-none≢is : {w : Word} {e : ℕ} → NoWord ≡ Is w e → ⊥
+none≢is : {w : Word} {e : ℕ} → ◌≡◌ {A = WordRead} None (Some (w, e)) → ⊥
 none≢is h = let z : ◌≡◌ {A = ℕ} 0 1 = cc in omega arith
 
-pub name_parts : (s : List ℕ) (i e : ℕ) → word_read s i ≡ Is Name e → NameRead s i e
+pub name_parts : (s : List ℕ) (i e : ℕ) → word_read s i ≡ Some (Name, e) → NameRead s i e
 unfolding word_read
 name_parts s i e h = go (has_at s i (ascii "TIME>=")) (ltb (i + word_bytes) (run_end is_word_byte s i)) refl h
   where
     go : (a b : Bool) → ltb (i + word_bytes) (run_end is_word_byte s i) ≡ b
-        → cond a (Is TimeGe (i + 6)) (cond b NoWord (Is (which_word s i (run_end is_word_byte s i - i)) (run_end is_word_byte s i))) ≡ Is Name e → NameRead s i e
+        → cond {A = WordRead} a (Some (TimeGe, i + 6)) (cond b None (Some (which_word s i (run_end is_word_byte s i - i), run_end is_word_byte s i))) ≡ Some (Name, e) → NameRead s i e
     go true b l x = absurd (is≢ time≢name x)
     go false true l x = absurd (none≢is x)
     go false false l x =
-        let end : run_end is_word_byte s i ≡ e = cc in
-        record { end = end; few = omega (arith, ltb-false (i + word_bytes) (run_end is_word_byte s i) l); which = cc }
+        let p : ◌≡◌ {A = Word × ℕ} (which_word s i (run_end is_word_byte s i - i), run_end is_word_byte s i) (Name, e) = cc in
+        let end : run_end is_word_byte s i ≡ e = ap (λ (x : Word × ℕ). x.1) p in
+        let word : which_word s i (run_end is_word_byte s i - i) ≡ Name = ap (λ (x : Word × ℕ). x.0) p in
+        record { end = end; few = omega (arith, ltb-false (i + word_bytes) (run_end is_word_byte s i) l); which = rw end at word }
 
 -- TIME>= goes on with > after its four letters
 pub time_letters : (s : List ℕ) (i : ℕ) → has_at s i (ascii "TIME>=") ≡ true → run_end is_word_byte s i ≡ i + 4
@@ -87,7 +89,7 @@ no_time s i n = go (has_at s i (ascii "TIME>=")) refl
     go true h = absurd (n (time_goes_on s i h))
     go false h = h
 
-parts_name : (s : List ℕ) (i e : ℕ) → NameRead s i e → (get_or s e 0 ≡ 62 → ⊥) → word_read s i ≡ Is Name e
+parts_name : (s : List ℕ) (i e : ℕ) → NameRead s i e → (get_or s e 0 ≡ 62 → ⊥) → word_read s i ≡ Some (Name, e)
 unfolding word_read
 parts_name s i e r n =
     rw (no_time s i (λ h. n (ap (λ (k : ℕ). get_or s k 0) (sym r.end) ∙ h)), r.end, le-ltb _ _ r.few, r.which)
@@ -108,8 +110,8 @@ which_same s t i j n same = of reserved
 -- ---- by itself, and in a file
 
 module _ (s : List ℕ) (i : ℕ) where
-  pub name_goes_on : (x rest : List ℕ) → word_read x 0 ≡ Is Name (length x) → drop i s ≡ x ++ rest → is_word_byte (get_or s (i + length x) 0) ≡ false
-      → (get_or s (i + length x) 0 ≡ 62 → ⊥) → word_read s i ≡ Is Name (i + length x)
+  pub name_goes_on : (x rest : List ℕ) → word_read x 0 ≡ Some (Name, length x) → drop i s ≡ x ++ rest → is_word_byte (get_or s (i + length x) 0) ≡ false
+      → (get_or s (i + length x) 0 ≡ 62 → ⊥) → word_read s i ≡ Some (Name, i + length x)
   unfolding run_end
   name_goes_on x rest h stands stop no_sign =
       let r = name_parts x 0 (length x) h in
@@ -125,7 +127,7 @@ module _ (s : List ℕ) (i : ℕ) where
       parts_name s i (i + length x)
       (record { end = rw (stands, long); few = omega (arith, r.few); which = rw (w, which_same s x i 0 (length x) bytes, ← z) r.which }) no_sign
 
-  pub name_alone : (e : ℕ) → word_read s i ≡ Is Name e → word_read (part s i (e - i)) 0 ≡ Is Name (length (part s i (e - i)))
+  pub name_alone : (e : ℕ) → word_read s i ≡ Some (Name, e) → word_read (part s i (e - i)) 0 ≡ Some (Name, length (part s i (e - i)))
   unfolding run_end part
   name_alone e h =
       let r = name_parts s i e h in

@@ -17,11 +17,11 @@ use Rattle.field.proofs.Parts.{head_at, rest_is, is_part}
 use Rattle.scan.specs.Kinds.{is_digit}
 use Rattle.scan.specs.Run.{run, run_end}
 use Rattle.scan.proofs.Runs.{in_range_lem, run_fits, run_passes, run_none, run_whole}
-use Rattle.word.specs.Word.{is_index, closed_index, group_read}
+use Rattle.word.specs.Word.{GroupRead, is_index, closed_index, group_read}
 use Rattle.word.specs.Names.{Index, Group, one, two}
-use Rattle.word.specs.declared.GroupRead.TheVariants.{After, NoGroup}
+use Rattle.std.specs.declared.option.Option.TheVariants.{Some, None}
 
-none≢after : {e : ℕ} → NoGroup ≡ After e → ⊥
+none≢after : {e : ℕ} → ◌≡◌ {A = GroupRead} None (Some e) → ⊥
 none≢after h = let z : ◌≡◌ {A = ℕ} 0 1 = cc in omega arith
 
 -- a byte that code has found to be k, of which no byte past the end is one, is one of the file
@@ -56,12 +56,12 @@ module _ (s : List ℕ) (j : ℕ) (x : List ℕ) (i : Index x) (b : ℕ) (rest :
       rest_is s (j + length x) (b ∷ []) 1 refl rest (j + length x + 1) refl
       (rest_is s j x (length x) refl (b ∷ rest) (j + length x) refl stands)
 
-closed_stands : (s : List ℕ) (j : ℕ) (x rest : List ℕ) → Index x → drop j s ≡ x ++ (93 ∷ rest) → closed_index s j ≡ After (j + length x + 1)
+closed_stands : (s : List ℕ) (j : ℕ) (x rest : List ℕ) → Index x → drop j s ≡ x ++ (93 ∷ rest) → closed_index s j ≡ Some (j + length x + 1)
 unfolding closed_index
 closed_stands s j x rest i stands =
     rw (index_run s j x i 93 rest refl stands, index_is s j x i 93 rest refl stands, byte_after s j x 93 rest stands)
 
-pub group_stands : (s : List ℕ) (j : ℕ) (g rest : List ℕ) → Group g → drop j s ≡ g ++ rest → group_read s j ≡ After (j + length g)
+pub group_stands : (s : List ℕ) (j : ℕ) (g rest : List ℕ) → Group g → drop j s ≡ g ++ rest → group_read s j ≡ Some (j + length g)
 unfolding group_read
 group_stands s j g rest (one x i is) stands =
     let all : drop j s ≡ 91 ∷ (x ++ (93 ∷ rest)) = stands ∙ rw is (ap (λ (l : List ℕ). 91 ∷ l) (append_assoc x (93 ∷ []) rest)) in
@@ -123,14 +123,14 @@ index_then s j b some few byte =
       next = rw long;
     }
 
-closed_found : (s : List ℕ) (j f : ℕ) → closed_index s j ≡ After f → IndexThen s j 93 f
+closed_found : (s : List ℕ) (j f : ℕ) → closed_index s j ≡ Some f → IndexThen s j 93 f
 unfolding closed_index
 closed_found s j f h = go (is_index (e - j)) (eqb (get_or s e 0) 93) refl refl h
   where
     e : ℕ
     e = run_end is_digit s j
 
-    go : (a b : Bool) → is_index (e - j) ≡ a → eqb (get_or s e 0) 93 ≡ b → cond (a && b) (After (e + 1)) NoGroup ≡ After f → IndexThen s j 93 f
+    go : (a b : Bool) → is_index (e - j) ≡ a → eqb (get_or s e 0) 93 ≡ b → cond (a && b) (Some (e + 1)) None ≡ Some f → IndexThen s j 93 f
     go true true p q x = let k : e + 1 ≡ f = cc in rw (← k) (index_then s j 93 (omega arith) p (eqb-true _ 93 q))
     go true false p q x = absurd (none≢after x)
     go false b p q x = absurd (none≢after x)
@@ -142,7 +142,7 @@ pub record GroupThen (s : List ℕ) (j f : ℕ) : Type 0 where
   pub stands : drop j s ≡ bytes ++ drop f s
   pub next : f ≡ j + length bytes
 
-pub group_found : (s : List ℕ) (j f : ℕ) → get_or s j 0 ≡ 91 → group_read s j ≡ After f → GroupThen s j f
+pub group_found : (s : List ℕ) (j f : ℕ) → get_or s j 0 ≡ 91 → group_read s j ≡ Some f → GroupThen s j f
 unfolding group_read
 group_found s j f bracket h = go (is_index (e - (j + 1))) (eqb (get_or s e 0) 44) refl refl h
   where
@@ -171,7 +171,7 @@ group_found s j f bracket h = go (is_index (e - (j + 1))) (eqb (get_or s e 0) 44
           next = omega (arith, r.next, t.next, length-append x (44 ∷ (y ++ (93 ∷ []))), length-append y (93 ∷ []));
         }
 
-    go : (a b : Bool) → is_index (e - (j + 1)) ≡ a → eqb (get_or s e 0) 44 ≡ b → cond (a && b) (closed_index s (e + 1)) (closed_index s (j + 1)) ≡ After f
+    go : (a b : Bool) → is_index (e - (j + 1)) ≡ a → eqb (get_or s e 0) 44 ≡ b → cond (a && b) (closed_index s (e + 1)) (closed_index s (j + 1)) ≡ Some f
         → GroupThen s j f
     go true true p q x = pair (index_then s (j + 1) 44 (omega arith) p (eqb-true _ 44 q)) (closed_found s (e + 1) f x)
     go true false p q x = alone (closed_found s (j + 1) f x)

@@ -6,10 +6,12 @@ use Rattle.scan.specs.Kinds.{is_digit, is_word_byte}
 use Rattle.scan.specs.Run.{run_end}
 use Rattle.word.specs.declared.Word.{Word}
 use Rattle.word.specs.declared.Word.TheVariants.{Job, Response, Upload, Download, GetInfo, Abort, Report, Event, Start, Active, Immediate, Other, Name, TimeGe}
-use Rattle.word.specs.declared.GroupRead.{GroupRead}
-use Rattle.word.specs.declared.GroupRead.TheVariants.{After, NoGroup}
-use Rattle.word.specs.declared.WordRead.{WordRead}
-use Rattle.word.specs.declared.WordRead.TheVariants.{Is, NoWord}
+use Rattle.std.specs.declared.option.Option.{Option}
+use Rattle.std.specs.declared.option.Option.TheVariants.{Some, None}
+
+-- a word and the place after it, or a run that is no word
+abbrev pub WordRead : Type 0
+WordRead = Option (Word × ℕ)
 
 -- a word by its letters
 pub record Spelling : Type 0 where
@@ -51,7 +53,7 @@ which_word s a n = which_of reserved s a n
 unfoldable pub word_read : List ℕ → ℕ → WordRead
 word_read s i =
     let e = run_end is_word_byte s i in
-    cond (has_at s i (ascii "TIME>=")) (Is TimeGe (i + 6)) (cond (ltb (i + word_bytes) e) NoWord (Is (which_word s i (e - i)) e))
+    cond (has_at s i (ascii "TIME>=")) (Some (TimeGe, i + 6)) (cond (ltb (i + word_bytes) e) None (Some (which_word s i (e - i), e)))
 
 -- ---- Need not be believed: as code tests it. `reads_report` of the page of claims ties it to `Name`.
 
@@ -75,6 +77,10 @@ is_name TimeGe = false
 -- ---- Need not be believed: P11, of which no word is read by now, a bracket group and a name with one, as they are found. They bind functions inside alone,
 -- and no claim cites them.
 
+-- the place after a group, or no group
+abbrev pub GroupRead : Type 0
+GroupRead = Option ℕ
+
 -- a number may have n digits
 abbrev pub is_index : ℕ → Bool
 is_index n = leb 1 n && leb n index_digits
@@ -83,7 +89,7 @@ is_index n = leb 1 n && leb n index_digits
 unfoldable pub closed_index : List ℕ → ℕ → GroupRead
 closed_index s j =
     let e = run_end is_digit s j in
-    cond (is_index (e - j) && eqb (get_or s e 0) 93) (After (e + 1)) NoGroup
+    cond (is_index (e - j) && eqb (get_or s e 0) 93) (Some (e + 1)) None
 
 -- the group that the bracket at j opens: where a comma follows its first number, a second one closes it
 unfoldable pub group_read : List ℕ → ℕ → GroupRead
@@ -93,5 +99,5 @@ group_read s j =
 
 -- a name that begins at i, with its group
 abbrev pub indexed : ℕ → GroupRead → WordRead
-indexed i (After e) = cond (ltb (i + word_bytes) e) NoWord (Is Name e)
-indexed i NoGroup = NoWord
+indexed i (Some e) = cond (ltb (i + word_bytes) e) None (Some (Name, e))
+indexed i None = None

@@ -11,7 +11,7 @@ use scan::{DIGIT, WORD, run_end};
 
 // Which word it is: a reserved one, a name, or TIME>=. Other is STOP, TIME or NEVER, which no production takes. They stand in the order of
 // the classes, so that a word's class costs nothing.
-#[derive(Clone, Copy)]
+#[derive(Clone, Copy, Debug, PartialEq, Eq, Hash)]
 pub enum Word {
     Job,
     Response,
@@ -29,40 +29,11 @@ pub enum Word {
     TimeGe,
 }
 
-// The place after a bracket group, or no group.
-#[derive(Clone, Copy)]
-pub enum GroupRead {
-    After(usize),
-    NoGroup,
-}
-
-// A word and the place after it, or a run that is no word.
-#[derive(Clone, Copy)]
-pub enum WordRead {
-    Is(Word, usize),
-    NoWord,
-}
-
 // Whether it is a name.
 pub fn is_name(w: Word) -> bool
     ensures { result ≡ is_name w }
 {
-    match w {
-        Word::Job => false,
-        Word::Response => false,
-        Word::Upload => false,
-        Word::Download => false,
-        Word::GetInfo => false,
-        Word::Abort => false,
-        Word::Report => false,
-        Word::Event => false,
-        Word::Start => false,
-        Word::Active => false,
-        Word::Immediate => false,
-        Word::Other => false,
-        Word::Name => true,
-        Word::TimeGe => false,
-    }
+    matches!(w, Word::Name)
 }
 
 // The word w where its letters stand at a, else another.
@@ -110,55 +81,53 @@ fn is_index(n: usize) -> bool
     (1 <= n) & (n <= INDEX_DIGITS)
 }
 
-// The number from j on and the bracket that closes its group.
-fn closed_index(s: &[u8], j: usize) -> GroupRead
+// The place after the number from j on and the bracket that closes its group, or no group.
+fn closed_index(s: &[u8], j: usize) -> Option<usize>
     requires { j ≤ length s.now }
     ensures { result ≡ closed_index s.now j }
 {
     let end = run_end(s, j, DIGIT);
-    if is_index(end - j) & (byte_at(s, end) == 93) {
-        return GroupRead::After(end + 1);
+    if is_index(end - j) & (byte_at(s, end) == b']') {
+        return Some(end + 1);
     }
-    GroupRead::NoGroup
+    None
 }
 
-// The group that the bracket at j opens.
-fn group_at(s: &[u8], j: usize) -> GroupRead
+// The place after the group that the bracket at j opens.
+fn group_at(s: &[u8], j: usize) -> Option<usize>
     requires { j < length s.now }
     ensures { result ≡ group_read s.now j }
 {
     let end = run_end(s, j + 1, DIGIT);
-    if is_index(end - (j + 1)) & (byte_at(s, end) == 44) {
+    if is_index(end - (j + 1)) & (byte_at(s, end) == b',') {
         return closed_index(s, end + 1);
     }
     closed_index(s, j + 1)
 }
 
 // The name that begins at i, with the group that the bracket at j opens.
-fn indexed_name(s: &[u8], i: usize, j: usize) -> WordRead
+fn indexed_name(s: &[u8], i: usize, j: usize) -> Option<(Word, usize)>
     requires { (i < length s.now) × (j < length s.now) }
     ensures { result ≡ indexed i (group_read s.now j) }
 {
-    let GroupRead::After(last) = group_at(s, j) else {
-        return WordRead::NoWord;
-    };
+    let last = group_at(s, j)?;
     if i + WORD_BYTES < last {
-        return WordRead::NoWord;
+        return None;
     }
-    WordRead::Is(Word::Name, last)
+    Some((Word::Name, last))
 }
 
-// The word that begins with the letter at i.
-pub fn word_at(s: &[u8], i: usize) -> WordRead
+// The word that begins with the letter at i, and the place after it; or the run from there is no word.
+pub fn word_at(s: &[u8], i: usize) -> Option<(Word, usize)>
     requires { i < length s.now }
     ensures { result ≡ word_read s.now i }
 {
     if has_at(s, i, b"TIME>=") {
-        return WordRead::Is(Word::TimeGe, i + 6);
+        return Some((Word::TimeGe, i + 6));
     }
     let end = run_end(s, i, WORD);
     if i + WORD_BYTES < end {
-        return WordRead::NoWord;
+        return None;
     }
-    WordRead::Is(which_word(s, i, end - i), end)
+    Some((which_word(s, i, end - i), end))
 }

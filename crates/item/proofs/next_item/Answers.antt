@@ -52,7 +52,7 @@ pub returns-in-NoToken : goal.returns-in-NoToken
 unfolding numbered
 returns-in-NoToken c =
     stood _ _ _ c.requires _ _ c.next_token.ensures
-    c.in-NoToken.is _ (rw (← c.no_token_class.ensures) c.item_of-in-NoToken.ensures)
+    c.in-NoToken.is _ c.item_of-in-NoToken.ensures
 
 pub returns-in-Word : goal.returns-in-Word
 unfolding numbered

@@ -11,14 +11,14 @@ pub returns-then-not-is_letter : goal.returns-then-not-is_letter
 returns-then-not-is_letter c =
     no_letter _ _ (c.is_letter.ensures ∙ ap is_letter (c.in_ok-get.ensures.lookup.3.1 0)) c.if-not-is_letter.true
 
-pub returns-in-Is : goal.returns-in-Is
-returns-in-Is c =
-    a_name _ _ (c.is_letter.ensures ∙ ap is_letter (c.in_ok-get.ensures.lookup.3.1 0)) _ _ _ _ c.if-not-is_letter.false c.word_at.ensures c.in-Is.is
+pub returns-in-Some : goal.returns-in-Some
+returns-in-Some c =
+    a_name _ _ (c.is_letter.ensures ∙ ap is_letter (c.in_ok-get.ensures.lookup.3.1 0)) _ _ _ _ c.if-not-is_letter.false c.word_at.ensures c.in-Some.is
     c.is_name.ensures c.if-is_name.true
 
 pub returns-in_default : goal.returns-in_default
 returns-in_default c =
-    no_name _ _ (c.is_letter.ensures ∙ ap is_letter (c.in_ok-get.ensures.lookup.3.1 0)) _ _ _ _ c.if-not-is_letter.false c.word_at.ensures c.in-Is.is
+    no_name _ _ (c.is_letter.ensures ∙ ap is_letter (c.in_ok-get.ensures.lookup.3.1 0)) _ _ _ _ c.if-not-is_letter.false c.word_at.ensures c.in-Some.is
     c.is_name.ensures c.if-is_name.false
 
 pub returns-in_default-2 : goal.returns-in_default-2

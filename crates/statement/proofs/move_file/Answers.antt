@@ -1,11 +1,11 @@
 -- `statement::move_file` meets its contract.
 use Rattle.grammar.specs.Grammar.Point.{move_file}
-use Rattle.laws.proofs.Choose.{choose}
+use Rattle.item.proofs.Classes.{by_class}
 use Rattle.statement.proofs.Along.{reads}
 use Rattle.statement.proofs.move_file.Goals as goal
 
-pub returns-then-t-eq-STRING : goal.returns-then-t-eq-STRING
-returns-then-t-eq-STRING c = reads (move_file _) _ _ _ _ c.next_item-t.ensures.is (search choose depth 9)
+pub returns-in-Text : goal.returns-in-Text
+returns-in-Text c = reads (move_file _) _ _ _ _ c.next_item-t.ensures.is (search by_class depth 9)
 
-pub returns : goal.returns
-returns c = reads (move_file _) _ _ _ _ c.next_item-t.ensures.is (search choose depth 9)
+pub returns-in_default : goal.returns-in_default
+returns-in_default c = reads (move_file _) _ _ _ _ c.next_item-t.ensures.is (search by_class depth 9)

@@ -1,23 +1,23 @@
 -- `statement::move_source` meets its contract.
 use Rattle.grammar.specs.Grammar.Point.{move_source}
-use Rattle.laws.proofs.Choose.{choose}
+use Rattle.item.proofs.Classes.{by_class}
 use Rattle.statement.proofs.Along.{reads}
 use Rattle.statement.proofs.move_source.Goals as goal
 
-pub returns-then-t-eq-ACTIVE : goal.returns-then-t-eq-ACTIVE
-returns-then-t-eq-ACTIVE c =
+pub returns-in-Active : goal.returns-in-Active
+returns-in-Active c =
     reads (move_source _) _ _ _ _ c.next_item-t.ensures.is
-    (rw (← c.transfer_of.ensures) (search choose depth 9))
+    (rw (← c.transfer_of.ensures) (search by_class depth 9))
 
-pub returns-then-t-eq-STRING : goal.returns-then-t-eq-STRING
-returns-then-t-eq-STRING c =
+pub returns-in-Text : goal.returns-in-Text
+returns-in-Text c =
     reads (move_source _) _ _ _ _ c.next_item-t.ensures.is
-    (rw (← c.transfer_of-then-t-eq-STRING.ensures) (search choose depth 9))
+    (rw (← c.transfer_of-in-Text.ensures) (search by_class depth 9))
 
-pub returns-then-t-eq-NAME : goal.returns-then-t-eq-NAME
-returns-then-t-eq-NAME c =
+pub returns-in-Name : goal.returns-in-Name
+returns-in-Name c =
     reads (move_source _) _ _ _ _ c.next_item-t.ensures.is
-    (rw (← c.part_of.ensures, ← c.transfer_of-then-t-eq-NAME.ensures) (search choose depth 9))
+    (rw (← c.part_of.ensures, ← c.transfer_of-in-Name.ensures) (search by_class depth 9))
 
-pub returns : goal.returns
-returns c = reads (move_source _) _ _ _ _ c.next_item-t.ensures.is (search choose depth 9)
+pub returns-in_default : goal.returns-in_default
+returns-in_default c = reads (move_source _) _ _ _ _ c.next_item-t.ensures.is (search by_class depth 9)

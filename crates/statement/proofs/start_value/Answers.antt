@@ -9,10 +9,10 @@ returns-then-is_number c =
     reads start_value _ _ _ _ c.next_item-t.ensures.is
     (rw (← c.start_when-start.ensures, ← c.transferred.ensures) (search values depth 9))
 
-pub returns-then-t-eq-STRING : goal.returns-then-t-eq-STRING
-returns-then-t-eq-STRING c =
+pub returns-in-Text : goal.returns-in-Text
+returns-in-Text c =
     reads start_value _ _ _ _ c.next_item-t.ensures.is
-    (rw (← c.start_when-start-then-t-eq-STRING.ensures, ← c.transferred-then-t-eq-STRING.ensures) (search values depth 9))
+    (rw (← c.start_when-start-in-Text.ensures, ← c.transferred-in-Text.ensures) (search values depth 9))
 
-pub returns : goal.returns
-returns c = reads start_value _ _ _ _ c.next_item-t.ensures.is (search values depth 9)
+pub returns-in_default : goal.returns-in_default
+returns-in_default c = reads start_value _ _ _ _ c.next_item-t.ensures.is (search values depth 9)

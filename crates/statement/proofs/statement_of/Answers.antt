@@ -1,28 +1,28 @@
 -- `statement::statement_of` meets its contract.
-use Rattle.laws.proofs.Choose.{choose}
+use Rattle.item.proofs.Classes.{by_class}
 use Rattle.statement.specs.Statement.{statement_of}
 use Rattle.statement.proofs.statement_of.Goals as goal
 
-pub returns-then-t-eq-JOB : goal.returns-then-t-eq-JOB
+pub returns-in-Job : goal.returns-in-Job
 unfolding statement_of
-returns-then-t-eq-JOB c = search choose depth 9
+returns-in-Job c = search by_class depth 9
 
-pub returns-then-t-eq-UPLOAD : goal.returns-then-t-eq-UPLOAD
+pub returns-in-Upload : goal.returns-in-Upload
 unfolding statement_of
-returns-then-t-eq-UPLOAD c = search choose depth 9
+returns-in-Upload c = search by_class depth 9
 
-pub returns-then-t-eq-DOWNLOAD : goal.returns-then-t-eq-DOWNLOAD
+pub returns-in-Download : goal.returns-in-Download
 unfolding statement_of
-returns-then-t-eq-DOWNLOAD c = search choose depth 9
+returns-in-Download c = search by_class depth 9
 
-pub returns-then-t-eq-GETINFO : goal.returns-then-t-eq-GETINFO
+pub returns-in-GetInfo : goal.returns-in-GetInfo
 unfolding statement_of
-returns-then-t-eq-GETINFO c = search choose depth 9
+returns-in-GetInfo c = search by_class depth 9
 
-pub returns-then-t-eq-ABORT : goal.returns-then-t-eq-ABORT
+pub returns-in-Abort : goal.returns-in-Abort
 unfolding statement_of
-returns-then-t-eq-ABORT c = search choose depth 9
+returns-in-Abort c = search by_class depth 9
 
-pub returns : goal.returns
+pub returns-in_default : goal.returns-in_default
 unfolding statement_of
-returns c = search choose depth 9
+returns-in_default c = search by_class depth 9
