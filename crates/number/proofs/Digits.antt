@@ -6,12 +6,12 @@ use mathlib.Core.List.{List, ◌∷◌}
 use native.Mathlib.Nat.{pow-suc, pow-le-pow_right, pow-succ', mul_assoc, add-mul, add_assoc, mul-one}
 use native.Mathlib.Numerals.{add-one}
 use native.Mathlib.Omega.{arith}
-use borrow.Author.Rules.{rules}
 use borrow.Author.Tests.{eq-eqb, ne_eqb}
 use lib.Dec.{eqb}
-use lib.ListN.{length, get_or}
+use lib.ListN.{length, get_or, take, drop, length-drop, drop_of_length-le}
+use lib.Seq.{drop-cons}
 use Rattle.field.specs.Part.{part}
-use Rattle.field.proofs.Parts.{part_cons, length_part_in}
+use Rattle.field.proofs.Parts.{part_cons}
 use Rattle.decimal.specs.Digits.{value, is_digit}
 use lib.IntN.{ℤ}
 use Rattle.number.specs.Number.{digits_of, scale_of, signed_of, number_of}
@@ -35,57 +35,38 @@ no_digit : (m x : ℕ) (xs : List ℕ) → is_digit x ≡ false → read_on m (x
 unfolding read_on digits_of
 no_digit m x xs e = rw (digits_of, e)
 
-module _ (s : List ℕ) (at w i : ℕ) (room : at + w ≤ length s) where
-  turn : i < w → part s (at + i) (w - i) ≡ get_or s (at + i) 0 ∷ part s (at + (i + 1)) (w - (i + 1))
-  turn l =
-      let e : w - i ≡ suc (w - (i + 1)) = omega arith in
-      let f : at + i + 1 ≡ at + (i + 1) = omega arith in
-      rw (e, part_cons s (at + i) (w - (i + 1)) (omega arith), f)
+module _ (s : List ℕ) (i : ℕ) where
+  turn : i < length s → drop i s ≡ get_or s i 0 ∷ drop (i + 1) s
+  turn l = rw (add-one, drop-cons s i 0 l)
 
-  module _ (m : ℕ) {e : ℕ} (inv : read_on m (part s (at + i) (w - i)) ≡ e) where
-    pub digit_on : (x : ℕ) → i < w → is_digit (get_or s (at + i) 0) ≡ true → x ≡ get_or s (at + i) 0 - 48
-        → read_on (m * 10 + x) (part s (at + (i + 1)) (w - (i + 1))) ≡ e
+  module _ (m : ℕ) {e : ℕ} (inv : read_on m (drop i s) ≡ e) where
+    pub digit_on : (x : ℕ) → i < length s → is_digit (get_or s i 0) ≡ true → x ≡ get_or s i 0 - 48 → read_on (m * 10 + x) (drop (i + 1) s) ≡ e
     digit_on x l d q = rw q (sym (a_digit m _ _ d) ∙ ap (read_on m) (sym (turn l)) ∙ inv)
 
-    pub other_on : i < w → is_digit (get_or s (at + i) 0) ≡ false → read_on m (part s (at + (i + 1)) (w - (i + 1))) ≡ e
+    pub other_on : i < length s → is_digit (get_or s i 0) ≡ false → read_on m (drop (i + 1) s) ≡ e
     other_on l d = sym (no_digit m _ _ d) ∙ ap (read_on m) (sym (turn l)) ∙ inv
 
-    pub all_read : w ≤ i → m ≡ e
-    unfolding read_on part digits_of value
-    all_read l =
-        let z : w - i ≡ 0 = omega arith in
-        sym (omega (arith, mul-one m)) ∙ (rw z at inv)
+    pub all_read : length s ≤ i → m ≡ e
+    unfolding read_on digits_of value
+    all_read l = sym (omega (arith, mul-one m)) ∙ (rw (drop_of_length-le s l) at inv)
 
-  module _ {e : ℕ} (inv : scale_of (part s (at + i) (w - i)) ≡ e) where
-    pub the_point : i < w → get_or s (at + i) 0 ≡ 46 → w - (i + 1) ≡ e
+  module _ {e : ℕ} (inv : scale_of (drop i s) ≡ e) where
+    pub the_point : i < length s → get_or s i 0 ≡ 46 → length s - (i + 1) ≡ e
     unfolding scale_of
-    the_point l p =
-        let f = rw (turn l, scale_of, eq-eqb _ _ p) at inv in
-        sym (length_part_in s (at + (i + 1)) (w - (i + 1)) (omega arith)) ∙ f
+    the_point l p = sym (length-drop (i + 1) s) ∙ (rw (turn l, scale_of, eq-eqb _ _ p) at inv)
 
-    pub no_point : i < w → (get_or s (at + i) 0 ≡ 46 → ⊥) → scale_of (part s (at + (i + 1)) (w - (i + 1))) ≡ e
+    pub no_point : i < length s → (get_or s i 0 ≡ 46 → ⊥) → scale_of (drop (i + 1) s) ≡ e
     unfolding scale_of
     no_point l p = rw (turn l, scale_of, ne_eqb _ _ p) at inv
 
-    pub none_found : w ≤ i → 0 ≡ e
-    unfolding scale_of part
-    none_found l =
-        let z : w - i ≡ 0 = omega arith in
-        rw z at inv
+    pub none_found : length s ≤ i → 0 ≡ e
+    unfolding scale_of
+    none_found l = rw (drop_of_length-le s l) at inv
 
--- where the loops begin
-at_start : (s : List ℕ) (at w : ℕ) → part s (at + 0) (w - 0) ≡ part s at w
-at_start s at w =
-    let e : at + 0 ≡ at = omega arith in
-    let f : w - 0 ≡ w = omega arith in
-    rw (e, f)
-
-pub starts : (s : List ℕ) (at w : ℕ) → read_on 0 (part s (at + 0) (w - 0)) ≡ value (digits_of (part s at w))
+-- where the loop begins
+pub starts : (s : List ℕ) → read_on 0 s ≡ value (digits_of s)
 unfolding read_on
-starts s at w = rw (at_start s at w) (omega arith)
-
-pub scale_starts : (s : List ℕ) (at w : ℕ) → scale_of (part s (at + 0) (w - 0)) ≡ scale_of (part s at w)
-scale_starts s at w = rw (at_start s at w)
+starts s = omega arith
 
 -- one digit more
 pub grows : (m i x : ℕ) → m < 10 ^ i → x < 10 → m * 10 + x < 10 ^ (i + 1)
@@ -101,14 +82,11 @@ room m i w h l k =
     let e : 10 ^ i ≤ 10 ^ 17 = pow-le-pow_right ten le in
     omega arith
 
-pub most : (m i w : ℕ) → m < 10 ^ i → i ≤ w → w ≤ 18 → m < 10 ^ 18
-most m i w h l k =
+pub most : (m i : ℕ) → m < 10 ^ i → i ≤ 18 → m < 10 ^ 18
+most m i h l =
     let ten : 0 < 10 = omega arith in
-    let le : i ≤ 18 = omega arith in
-    let e : 10 ^ i ≤ 10 ^ 18 = pow-le-pow_right ten le in
+    let e : 10 ^ i ≤ 10 ^ 18 = pow-le-pow_right ten l in
     omega arith
-
-pub ruleset reading = (rules, digit_on, other_on, all_read, the_point, no_point, none_found, scale_starts)
 
 abbrev the_number : ℤ → ℕ → Number
 the_number v n = record { mantissa = v; scale = n }
@@ -119,7 +97,10 @@ first_byte s at w room l =
     let e : w ≡ suc (w - 1) = omega arith in
     rw (e, part_cons s at (w - 1) (omega arith))
 
-pub is_number : (s : List ℕ) (at w : ℕ) → at + w ≤ length s → 0 < w → (v : ℤ) (m n : ℕ) → v ≡ signed_of (eqb (get_or s at 0) 45) m
-    → m ≡ value (digits_of (part s at w)) → n ≡ scale_of (part s at w) → the_number v n ≡ number_of (part s at w)
-unfolding number_of
-is_number s at w room l v m n p q r = rw (p, q, r, first_byte s at w room l)
+pub is_number : (s : List ℕ) (at w : ℕ) (bytes : List ℕ) → bytes ≡ take (at + w - at) (drop at s) → (v : ℤ) (m n : ℕ)
+    → v ≡ signed_of (eqb (get_or bytes 0 0) 45) m → m ≡ value (digits_of bytes) → n ≡ scale_of bytes → the_number v n ≡ number_of (part s at w)
+unfolding number_of part
+is_number s at w bytes e v m n p q r =
+    let width : at + w - at ≡ w = omega arith in
+    let is : bytes ≡ take w (drop at s) = e ∙ ap (λ (k : ℕ). take k (drop at s)) width in
+    rw (p, q, r, is)

@@ -13,42 +13,29 @@ pub struct Number {
     pub scale: u32,
 }
 
-fn wide(x: u8) -> u64
-    ensures { result ≡ x }
-{
-    x as u64
-}
-
-// The number that the digits among the width bytes from at on are.
-fn magnitude(s: &[u8], at: usize, width: usize) -> u64
-    requires { (at + width ≤ length s.now) × (width ≤ 18) }
-    ensures { (result ≡ value (digits_of (part s.now at width))) × (result < 10 ^ 18) }
+// The number that the digits among the bytes are.
+fn magnitude(bytes: &[u8]) -> u64
+    requires { length bytes.now ≤ 18 }
+    ensures { (result ≡ value (digits_of bytes.now)) × (result < 10 ^ 18) }
 {
     let mut m: u64 = 0;
-    let mut i = 0;
-    while i < width {
-        let b = s[at + i];
-        if (48 <= b) & (b <= 57) {
-            m = m * 10 + wide(b - 48);
-            i += 1;
-        } else {
-            i += 1;
+    for b in bytes {
+        if (b'0' <= *b) & (*b <= b'9') {
+            m = m * 10 + u64::from(*b - b'0');
         }
     }
     m
 }
 
-// How many of the width bytes from at on stand after the point.
-fn scale(s: &[u8], at: usize, width: usize) -> u32
-    requires { (at + width ≤ length s.now) × (width ≤ 18) }
-    ensures { result ≡ scale_of (part s.now at width) }
+// How many of the bytes stand after the point.
+fn scale(bytes: &[u8]) -> u32
+    requires { length bytes.now ≤ 18 }
+    ensures { result ≡ scale_of bytes.now }
 {
-    let mut i = 0;
-    while i < width {
-        if s[at + i] == 46 {
-            return (width - (i + 1)) as u32;
+    for (i, b) in bytes.iter().enumerate() {
+        if *b == b'.' {
+            return (bytes.len() - (i + 1)) as u32;
         }
-        i += 1;
     }
     0
 }
@@ -59,10 +46,7 @@ fn signed(minus: bool, m: u64) -> i64
     ensures { result ≡ signed_of minus m }
 {
     let v = m as i64;
-    if minus {
-        return 0 - v;
-    }
-    v
+    if minus { 0 - v } else { v }
 }
 
 // The number whose width bytes stand from at on: 16 digits, a sign and a point are 18.
@@ -70,9 +54,9 @@ pub fn number_at(s: &[u8], at: usize, width: usize) -> Number
     requires { (at + width ≤ length s.now) × (0 < width) × (width ≤ 18) }
     ensures { result ≡ number_of (part s.now at width) }
 {
-    let minus = s[at] == 45;
-    let m = magnitude(s, at, width);
-    let mantissa = signed(minus, m);
-    let scale = scale(s, at, width);
-    Number { mantissa, scale }
+    let bytes = &s[at..at + width];
+    Number {
+        mantissa: signed(bytes[0] == b'-', magnitude(bytes)),
+        scale: scale(bytes),
+    }
 }

@@ -16,5 +16,5 @@ returns-then-minus c =
     let m = c.args.m in
     rw (c.if-minus.true, less m (omega arith)) (to_z-of_z w64 (neg_ℤ (pos m)) (neg_fits m (omega arith)))
 
-pub returns : goal.returns
-returns c = rw c.if-minus.false (to_z_pos w64 c.args.m (omega arith))
+pub returns-else-minus : goal.returns-else-minus
+returns-else-minus c = rw c.if-minus.false (to_z_pos w64 c.args.m (omega arith))
