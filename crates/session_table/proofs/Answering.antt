@@ -1,15 +1,16 @@
 -- Answering: the ways through its tests, and what it leaves.
 use Prim.Native.Nat.{ℕ, ◌-◌, ◌≤◌}
 use mathlib.Core.Path.{◌≡◌, refl, ◌∙◌, ap, sym}
-use mathlib.Core.Bool.{Bool, true, false, false≢true}
+use mathlib.Core.Bool.{Bool, true, false, cond, false≢true}
 use mathlib.Core.List.{List}
 use native.Mathlib.Omega.{arith}
 use borrow.Author.Tests.{leb-true}
-use lib.Dec.{leb}
+use lib.Dec.{eqb, leb}
 use Rattle.counts.proofs.Results.{refused_not_done}
 use Rattle.counts.specs.Limits.{class_most, code_most}
 use Rattle.counts.specs.Refusals.{not_real, not_a_record, not_the_one, unsound}
 use Rattle.counts.specs.Result.{refused, done}
+use Rattle.counts.specs.declared.SessionNumber.{SessionNumber}
 use Rattle.counts.specs.declared.Refusal.{Refusal}
 use Rattle.laws.proofs.Choose.{and_left}
 use Rattle.sessions.specs.Find.{Found, none, at}
@@ -27,9 +28,10 @@ use Rattle.table_layout.specs.Layout.{number, hand_at}
 use Rattle.table_search.proofs.Sounds.{Waits, waits, hand_waits}
 use Rattle.table_sound.proofs.Slots.{hand_empty, hand_full}
 use Rattle.table_sound.specs.Bytes.{hand_of, abs, sound_bytes}
-use Rattle.session_table.specs.Calls.{only, verdict, names_hand, answering, answered_as, answered_bytes}
+use Rattle.session_table.specs.Calls.{only, verdict, names_hand, IsNamed, answering, answered_as, answered_bytes}
 use Rattle.session_table.specs.Paper.{paper_answered}
 use Rattle.std.specs.declared.result.Result.{Result as Returned}
+use Rattle.session_table.proofs.Searches.{none≢at}
 use Rattle.session_table.proofs.Verdicts.{passed, passed_both, is_refused, keeps_bytes}
 
 -- an outcome in range is stored in a number
@@ -49,6 +51,20 @@ module _ (b : List ℕ) (h : ℕ) (q : h ≡ number b hand_at) (sound : sound_by
   pub names_is : (h ≡ 0 → ⊥) → (t c : ℕ) (x : Head) → x ≡ head_of b (h - 1) → (r : Bool) → Tells x (λ y. names y t c) r
       → r ≡ names_hand (abs b) t c (hand_of (number b hand_at))
   names_is n t c x p r said = sym (asked b (h - 1) x p (in_hand n).stands_there.below (λ y. names y t c) said refl) ∙ rw (← q, hand_full h n)
+
+  pub is_named : (h ≡ 0 → ⊥) → (t c : ℕ) (s : SessionNumber) → s.0 ≡ h - 1 → names_hand (abs b) t c (hand_of (number b hand_at)) ≡ true → IsNamed b t c s
+  is_named n t c s e d = let f = ap hand_of (sym q) ∙ hand_full h n in (f ∙ ap at (sym e), rw e (rw f at d))
+
+pub named_so : (b : List ℕ) (t c : ℕ) (s : SessionNumber) → IsNamed b t c s → names_hand (abs b) t c (hand_of (number b hand_at)) ≡ true
+named_so b t c s w = rw w.0 w.1
+
+pub held_is : (n k : ℕ) → hand_of n ≡ at k → k ≡ n - 1
+unfolding hand_of
+held_is n k e = go (eqb n 0) e
+  where
+    go : (t : Bool) → cond {A = Found} t none (at (n - 1)) ≡ at k → k ≡ n - 1
+    go true e = absurd (none≢at e)
+    go false e = cc
 
 -- the four ways, whatever is in hand
 module _ (σ : State) (t c : ℕ) (a : Answer) where

@@ -1,7 +1,7 @@
 -- A call is a verdict and then an effect: what its two halves say together.
 use Prim.Native.Nat.{ℕ}
 use mathlib.Core.Path.{◌≡◌, refl, ◌∙◌, ap, sym}
-use mathlib.Core.Bool.{Bool, true, false, cond}
+use mathlib.Core.Bool.{Bool, true, false, cond, false≢true}
 use mathlib.Core.List.{List}
 use borrow.Author.Tests.{ne_eqb}
 use Rattle.counts.proofs.Results.{refused_not_done, refused_plainly}
@@ -10,11 +10,11 @@ use Rattle.counts.specs.Refusals.{number_of, refusal}
 use Rattle.counts.specs.declared.Reason.{Reason}
 use Rattle.counts.specs.declared.Refusal.{Refusal}
 use Rattle.std.specs.Option.{ok_or}
-use Rattle.std.specs.Prelude.{IsErr, IsErrAnd}
+use Rattle.std.specs.Prelude.{IsErr, IsErrAnd, MatchResult}
 use Rattle.std.specs.declared.option.Option.{Option}
 use Rattle.std.specs.declared.option.Option.TheVariants.{None}
 use Rattle.std.specs.declared.result.Result.{Result as Returned}
-use Rattle.std.specs.declared.result.Result.TheVariants.{Err}
+use Rattle.std.specs.declared.result.Result.TheVariants.{Ok, Err}
 use Rattle.sessions.specs.Table.{State}
 use Rattle.session_table.specs.Calls.{after, only, verdict}
 
@@ -51,10 +51,18 @@ pub plainly : {A : Type 0} {f : Refusal} {reason : Reason} → f ≡ refusal rea
 plainly e = ap refused_as e
 
 -- where there was nothing to go on with
+pub its_reason : {X : Type 0} (o : Option X) (e reason : Reason) → o ≡ None → ◌≡◌ {A = Returned X Reason} (Err e) (ok_or o reason) → e ≡ reason
+its_reason {X} o e reason n v =
+    let w : ◌≡◌ {A = Returned X Reason} (Err e) (Err reason) = v ∙ ap (λ o. ok_or o reason) n in
+    cc
+
 pub none_left : {T X A : Type 0} (values : T → A) (r : Returned T Refusal) (o : Option X) {e : Reason} (reason : Reason)
     → IsErr r × IsErrAnd r (λ f. f ≡ refusal e 0) → o ≡ None → ◌≡◌ {A = Returned X Reason} (Err e) (ok_or o reason)
     → paper values r ≡ refused (number_of reason) 0
-none_left {X = X} values r o {e = e} reason h n v =
-    let w : ◌≡◌ {A = Returned X Reason} (Err e) (Err reason) = v ∙ ap (λ o. ok_or o reason) n in
-    let q : e ≡ reason = cc in
-    refused_plainly values r e h ∙ ap (λ x. refused (number_of x) 0) q
+none_left values r o {e = e} reason h n v = refused_plainly values r e h ∙ ap (λ x. refused (number_of x) 0) (its_reason o e reason n v)
+
+-- a reason that is passed on
+pub passed_on : {T : Type 0} (P : T → Type 0) (Q : Reason → Type 0) (r : Returned T Reason) {e reason : Reason} → IsErr r × IsErrAnd r (λ x. x ≡ e)
+    → e ≡ reason → Q reason → MatchResult r P Q
+passed_on P Q (Ok x) h q a = absurd (false≢true h.0)
+passed_on P Q (Err x) h q a = rw (h.1, q) a

@@ -1,16 +1,17 @@
 -- What each call of the table answers on lent bytes, and the bytes at its exit.
-use Rattle.std.specs.Prelude.{ℕ, ◌+◌, ◌-◌, ◌*◌, ◌≤◌, ◌<◌, Bool, false, cond, List, ◌⊎◌, eqb, length, replicate}
+use Rattle.std.specs.Prelude.{ℕ, ◌+◌, ◌-◌, ◌*◌, ◌≤◌, ◌<◌, ◌≡◌, Bool, true, false, cond, List, ◌⊎◌, eqb, length, replicate}
 use Rattle.counts.specs.Limits.{sessions}
 use Rattle.counts.specs.Refusals.{out_of_range, unsound}
 use Rattle.counts.specs.Result.{Result, refused, done}
 use Rattle.field.specs.Part.{put}
 use Rattle.sessions.specs.Table.{State, within, place, take_up, names, answer, is_ready, collect}
 use Rattle.sessions.specs.Find.{Found, none, at, or_none, find}
+use Rattle.counts.specs.declared.SessionNumber.{SessionNumber}
 use Rattle.sessions.specs.declared.Answer.{Answer}
 use Rattle.slot.specs.Fields.{is_taken_at, slot_of}
 use Rattle.slot.specs.Stored.{new_head, put_head, with_entry, taken_out, put_slot}
 use Rattle.table_layout.specs.Layout.{table_bytes, max_at, number, put_number, last_at, mark_at, hand_at, fresh_table, put_table}
-use Rattle.table_sound.specs.Bytes.{abs, sound_bytes}
+use Rattle.table_sound.specs.Bytes.{hand_of, abs, sound_bytes}
 
 -- a byte i outside the k numbers of four bytes that stand from the number `from` on
 abbrev pub Beyond : ℕ → ℕ → ℕ → Type 0
@@ -76,6 +77,10 @@ taken_bytes b = after (taking_up b) b (taken_at b)
 abbrev pub names_hand : State → ℕ → ℕ → Found → Bool
 names_hand σ t c none = false
 names_hand σ t c (at s) = names (σ.slot s) t c
+
+-- the session that is in hand, where ticket and command are those of its command
+abbrev pub IsNamed : List ℕ → ℕ → ℕ → SessionNumber → Type 0
+IsNamed b t c s = (hand_of (number b hand_at) ≡ at s.0) × (names (slot_of b s.0) t c ≡ true)
 
 -- "Answering changes one slot's entry and the in-hand mark, nothing else."
 unfoldable pub answering : List ℕ → ℕ → ℕ → Answer → Result (Unit {0})

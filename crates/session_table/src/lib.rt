@@ -2,7 +2,8 @@
 // then do what the call does. The others are one way through, so that they search the sessions once.
 #![tactic(auto)]
 
-ghost use Rattle.std.specs.Prelude.{◌≡◌, ◌&&◌, true, ◌+◌, ◌<◌};
+ghost use Rattle.std.specs.Prelude.{◌≡◌, ◌&&◌, true, false, ◌+◌, ◌<◌, MatchOption, MatchResult};
+ghost use Rattle.counts.specs.Refusals.{number_of};
 ghost use Rattle.counts.specs.Limits.{commands, programs, sessions};
 ghost use Rattle.counts.specs.Result.{done, refused_by};
 ghost use Rattle.sessions.specs.Table.{within, is_waiting, given_from};
@@ -10,7 +11,7 @@ ghost use Rattle.slot.specs.Fields.{slot_of};
 ghost use Rattle.table_layout.specs.Layout.{number, hand_at};
 ghost use Rattle.table_sound.specs.Bytes.{hand_of, abs, sound_bytes};
 ghost use Rattle.session_table.specs.Paper.{paper_made, paper_placed, paper_taken_up, paper_answered};
-ghost use Rattle.session_table.specs.Calls.{names_hand, verdict, only, making, made_bytes, placing, placed_bytes, taking_up, taken_bytes, answering, answered_bytes};
+ghost use Rattle.session_table.specs.Calls.{names_hand, IsNamed, verdict, only, making, made_bytes, placing, placed_bytes, taking_up, taken_bytes, answering, answered_bytes};
 ghost use Rattle.session_table.specs.Collect.{Collects};
 
 use counts::{CommandNumber, Reason, Refusal, SessionNumber, Ticket};
@@ -110,7 +111,7 @@ fn take_up_at(b: &mut [u8], s: SessionNumber) -> (SessionNumber, Ticket, Command
 {
     let r = given(b, s);
     put_mark(b, s);
-    put_hand(b, s.0 + 1);
+    put_hand(b, Some(s));
     r
 }
 
@@ -130,42 +131,45 @@ pub fn take_up(b: &mut [u8]) -> Result<(SessionNumber, Ticket, CommandNumber), R
     if !is_sound(b) {
         return Err(Reason::Unsound.into());
     }
-    let hand = get_table(b).hand;
-    if hand == 0 {
-        return take_up_next(b);
+    match get_table(b).hand {
+        Some(s) => Ok(given(b, s)),
+        None => take_up_next(b),
     }
-    Ok(given(b, SessionNumber(hand - 1)))
 }
 
-// Whether ticket and command are those of the command in hand.
-fn names_hand(b: &[u8], ticket: Ticket, command: CommandNumber) -> bool
+// The session whose command is in hand, where ticket and command are that one's.
+fn named_in_hand(b: &[u8], ticket: Ticket, command: CommandNumber) -> Option<SessionNumber>
     requires { sound_bytes b.now ≡ true }
-    ensures { result ≡ names_hand (abs b.now) ticket.0 command.0 (hand_of (number b.now hand_at)) }
+    ensures { MatchOption result (names_hand (abs b.now) ticket.0 command.0 (hand_of (number b.now hand_at)) ≡ false) (IsNamed b.now ticket.0 command.0) }
 {
-    let hand = get_table(b).hand;
-    if hand == 0 {
-        return false;
+    let s = get_table(b).hand?;
+    if get_head(b, s).names(ticket, command) {
+        Some(s)
+    } else {
+        None
     }
-    get_head(b, SessionNumber(hand - 1)).names(ticket, command)
 }
 
-// Whether an answer is accepted, and why not.
-fn may_answer(b: &[u8], ticket: Ticket, command: CommandNumber, a: Answer) -> Result<(), Reason>
-    ensures { verdict (refused_by result) ≡ only (answering b.now ticket.0 command.0 a) }
+// The session whose answer it is, or why it is not accepted.
+fn may_answer(
+    b: &[u8],
+    ticket: Ticket,
+    command: CommandNumber,
+    a: Answer,
+) -> Result<SessionNumber, Reason>
+    ensures { MatchResult result (λ s. (done tt ≡ only (answering b.now ticket.0 command.0 a)) × IsNamed b.now ticket.0 command.0 s) (λ reason. verdict (number_of reason) ≡ only (answering b.now ticket.0 command.0 a)) }
 {
     if !is_sound(b) {
         return Err(Reason::Unsound);
     }
-    if !names_hand(b, ticket, command) {
-        return Err(Reason::NotTheOne);
-    }
+    let s = named_in_hand(b, ticket, command).ok_or(Reason::NotTheOne)?;
     if !moment::is_real(a.date, a.time) {
         return Err(Reason::NotReal);
     }
     if !record::is_outcome(a.outcome) {
         return Err(Reason::NotARecord);
     }
-    Ok(())
+    Ok(s)
 }
 
 // Accepts the answer to the command in hand.
@@ -184,10 +188,9 @@ pub fn answer(
         date,
         time,
     };
-    may_answer(b, ticket, command, a)?;
-    let hand = get_table(b).hand;
-    answer_slot(b, SessionNumber(hand - 1), a);
-    put_hand(b, 0);
+    let s = may_answer(b, ticket, command, a)?;
+    answer_slot(b, s, a);
+    put_hand(b, None);
     Ok(())
 }
 

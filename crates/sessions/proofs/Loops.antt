@@ -23,6 +23,11 @@ pub all_more : (p : ℕ → Bool) {n : ℕ} → all n p ≡ true → p n ≡ tru
 unfolding all
 all_more p {n} h e = rw (add-one, h, e)
 
+pub all_holds : (p : ℕ → Bool) (n : ℕ) → ((i : ℕ) → i < n → p i ≡ true) → all n p ≡ true
+unfolding all
+all_holds p zero h = refl
+all_holds p (suc n) h = rw (all_holds p n (λ i l. h i (omega arith)), h n (omega arith))
+
 pub all_fails : (p : ℕ → Bool) (n : ℕ) {i : ℕ} → i < n → p i ≡ false → all n p ≡ false
 unfolding all
 all_fails p zero h e = absurd (omega arith)

@@ -1,2 +1,2 @@
-pub mod Zeros
 pub mod Numbers
+pub mod Hands

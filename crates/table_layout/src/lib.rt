@@ -3,18 +3,17 @@
 #![tactic(auto)]
 
 ghost use Rattle.std.specs.Prelude.{◌≡◌, ◌<◌, ◌≤◌, length, replicate};
-ghost use Rattle.table_layout.specs.Layout.{table_bytes, table_numbers, number, put_number, last_at, mark_at, hand_at, fresh_table, table_of, put_table};
+ghost use Rattle.table_layout.specs.Layout.{table_bytes, table_numbers, number, put_number, last_at, mark_at, hand_at, fresh_table, hand_read, hand_number, table_of, put_table};
 
 use counts::{SessionNumber, Ticket};
 
-// The table's own row: MaxSessions, the last ticket, the number last taken up, and what is in hand (0: nothing, else one more than the
-// number of the session whose lowest unanswered command it is).
-#[derive(Clone, Copy)]
+// The table's own row: MaxSessions, the last ticket, the number last taken up, and the session whose lowest unanswered command is in hand.
+#[derive(Clone, Copy, Debug, PartialEq, Eq, Hash)]
 pub struct Table {
     pub max: u32,
     pub last: Ticket,
     pub mark: SessionNumber,
-    pub hand: u32,
+    pub hand: Option<SessionNumber>,
 }
 
 impl Table {
@@ -46,7 +45,7 @@ impl Table {
             max,
             last: Ticket(0),
             mark: SessionNumber(max - 1),
-            hand: 0,
+            hand: None,
         }
     }
 
@@ -54,11 +53,7 @@ impl Table {
     pub fn clear(b: &mut [u8])
         ensures { b.new ≡ replicate (length b.old) 0 }
     {
-        let mut i = 0;
-        while i < b.len() {
-            b[i] = 0;
-            i += 1;
-        }
+        b.fill(0);
     }
 }
 
@@ -77,6 +72,23 @@ pub fn put_number(b: &mut [u8], i: usize, v: u32)
     field::put32(b, 4 * i, v)
 }
 
+// What is in hand stands as a number: 0 for nothing, else one more than the session's.
+fn hand_read(number: u32) -> Option<SessionNumber>
+    ensures { result ≡ hand_read number }
+{
+    number.checked_sub(1).map(SessionNumber)
+}
+
+fn hand_number(hand: Option<SessionNumber>) -> u32
+    requires { hand_number hand ≤ 4294967295 }
+    ensures { result ≡ hand_number hand }
+{
+    match hand {
+        None => 0,
+        Some(s) => s.0 + 1,
+    }
+}
+
 pub fn get_table(b: &[u8]) -> Table
     requires { length b.now ≡ table_bytes }
     ensures { result ≡ table_of b.now }
@@ -85,18 +97,18 @@ pub fn get_table(b: &[u8]) -> Table
         max: number_at(b, 0),
         last: Ticket(number_at(b, 1)),
         mark: SessionNumber(number_at(b, 2)),
-        hand: number_at(b, 3),
+        hand: hand_read(number_at(b, 3)),
     }
 }
 
 pub fn put_table(b: &mut [u8], t: Table)
-    requires { length b.old ≡ table_bytes }
+    requires { (length b.old ≡ table_bytes) × (hand_number t.hand ≤ 4294967295) }
     ensures { b.new ≡ put_table b.old t }
 {
     put_number(b, 0, t.max);
     put_number(b, 1, t.last.0);
     put_number(b, 2, t.mark.0);
-    put_number(b, 3, t.hand);
+    put_number(b, 3, hand_number(t.hand));
 }
 
 pub fn put_last(b: &mut [u8], t: Ticket)
@@ -113,9 +125,9 @@ pub fn put_mark(b: &mut [u8], s: SessionNumber)
     put_number(b, 2, s.0)
 }
 
-pub fn put_hand(b: &mut [u8], hand: u32)
-    requires { length b.old ≡ table_bytes }
-    ensures { b.new ≡ put_number b.old hand_at hand }
+pub fn put_hand(b: &mut [u8], hand: Option<SessionNumber>)
+    requires { (length b.old ≡ table_bytes) × (hand_number hand ≤ 4294967295) }
+    ensures { b.new ≡ put_number b.old hand_at (hand_number hand) }
 {
-    put_number(b, 3, hand)
+    put_number(b, 3, hand_number(hand))
 }

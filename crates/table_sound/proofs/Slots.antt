@@ -1,16 +1,20 @@
 -- What the tests of soundness are on a table's bytes.
 use Prim.Native.Nat.{ℕ, ◌+◌, ◌-◌, ◌≤◌, ◌<◌}
 use mathlib.Core.Path.{◌≡◌, refl, ◌∙◌, ap, sym}
-use mathlib.Core.Bool.{Bool, true, false, cond, ◌&&◌, ◌||◌, not}
+use mathlib.Core.Bool.{Bool, true, false, cond, ◌&&◌, ◌||◌, not, false≢true}
 use mathlib.Core.Logic.{⊎_elim}
 use mathlib.Core.List.{List}
 use native.Mathlib.Nat.{eq-zero-or-pos, eq-or-lt_of_le}
 use native.Mathlib.Omega.{arith}
 use lib.Dec.{eqb, leb, ltb}
-use lib.ListN.{length, get_or, set, length-set}
+use lib.ListN.{length, get_or, set, take, length-set}
 use lib.Seq.{get_or-set_same}
 use borrow.Author.Rules.{read_below}
 use borrow.Author.Tests.{eq-eqb, ne_eqb, lt-ltb, le-ltb, ltb-true, ltb-false}
+use Rattle.std.proofs.lemmas.List.{get_or-take, length-take-le}
+use Rattle.std.specs.Option.{is_some}
+use Rattle.std.specs.Prelude.{Option, Some, None}
+use Rattle.counts.specs.declared.SessionNumber.{SessionNumber}
 use Rattle.counts.specs.Limits.{commands, programs, sessions, ticket_most}
 use Rattle.sessions.proofs.Laws.{either}
 use Rattle.sessions.proofs.Loops.{all_same, all_real_lem, all_fails, all_end}
@@ -21,7 +25,8 @@ use Rattle.sessions.specs.Table.{Session, no_session, within, is_open, is_waitin
 use Rattle.slot.proofs.Told.{told_session, told_answers, is_taken, slot_beyond, slot_told}
 use Rattle.slot.specs.Fields.{head_of, entry_of, session_of, told, slot_of, Tells}
 use Rattle.slot.specs.declared.Head.{Head}
-use Rattle.table_layout.specs.Layout.{table_bytes, table_of}
+use Rattle.table_layout.proofs.Hands.{hand_back}
+use Rattle.table_layout.specs.Layout.{table_bytes, hand_number, table_of}
 use Rattle.table_layout.specs.declared.Table.{Table}
 use Rattle.table_sound.specs.Bytes.{hand_of, abs, sound_bytes, Seen, hand_known}
 
@@ -49,7 +54,7 @@ differs_is b i t l = go (ltb i sessions) (eqb (head_of b i).taken 0)
 -- ---- one slot
 
 module _ {b : List ℕ} {t : Table} {s : ℕ} {h : Head} {seen : List ℕ}
-    (pre : (length b ≡ table_bytes) × (s < sessions) × (t ≡ table_of b) × (h ≡ head_of b s) × Seen b s seen) where
+    (pre : (length b ≡ table_bytes) × (s < sessions) × (t ≡ table_of b) × (h ≡ head_of b s) × Seen b s seen × (length seen ≡ s)) where
   its_slot : slot_of b s ≡ told h (entry_of b s)
   its_slot = slot_told b s pre.1 ∙ ap (λ x. told x (entry_of b s)) (sym pre.3)
 
@@ -85,7 +90,7 @@ module _ {b : List ℕ} {t : Table} {s : ℕ} {h : Head} {seen : List ℕ}
           pub few_answers : h.answered ≤ commands
           few_answers = bounds.1
 
-          module _ (new_ok : Bool) (new-said : new_ok ≡ all s (λ i. not (eqb (get_or seen i 0) h.ticket.0))) where
+          module _ (new_ok : Bool) (new-said : new_ok ≡ all (length seen) (λ i. not (eqb (get_or seen i 0) h.ticket.0))) where
             rest_is : slot_sound (abs b) s (slot_of b s) ≡ (new_ok && all h.answered (λ i. in_range_and_real (entry_of b s (i + 1))))
             rest_is =
                 slot_tests_are
@@ -94,6 +99,7 @@ module _ {b : List ℕ} {t : Table} {s : ℕ} {h : Head} {seen : List ℕ}
                   good,
                   told_session h (entry_of b s) taken,
                   new-said,
+                  pre.5,
                   all_same _ _ s (λ i l. ap (λ k. not (eqb k h.ticket.0)) (pre.4.tickets i l) ∙ differs_is b i h.ticket.0 bounds.0),
                   all_real_lem h.answered (λ i. entry_of b s (i + 1)),
                 )
@@ -109,6 +115,12 @@ module _ {b : List ℕ} {t : Table} {s : ℕ} {h : Head} {seen : List ℕ}
 module _ (b seen : List ℕ) where
   pub seen_none : Seen b 0 seen
   seen_none = record { room = omega arith; tickets = λ i l. absurd (omega arith) }
+
+  -- of the first s numbers alone
+  pub seen_taken : (s : ℕ) → Seen b s seen → Seen b s (take s seen) × (length (take s seen) ≡ s)
+  seen_taken s w =
+      let l = length-take-le s seen w.room in
+      (record { room = omega arith; tickets = λ i k. get_or-take s seen i 0 k ∙ w.tickets i k }, l)
 
   pub seen_more : (s v : ℕ) (h : Head) → s < length seen → s < sessions → h ≡ head_of b s → Tells h (λ x. x.ticket) v → Seen b s seen
       → Seen b (s + 1) (set seen s v)
@@ -136,9 +148,9 @@ module _ (n : ℕ) where
 
 -- what is known of it, number after number
 module _ (b : List ℕ) (n : ℕ) where
-  pub hand_start : eqb n 0 ≡ hand_known b n 0
+  hand_nothing : eqb n 0 ≡ hand_known b n 0
   unfolding hand_sound hand_of
-  hand_start =
+  hand_nothing =
       ⊎_elim (λ (z : n ≡ 0). rw z) (λ (l : 1 ≤ n). rw (ne_eqb n 0 (λ z. omega arith), lt-ltb 0 n (omega arith))) (eq-zero-or-pos n)
 
   -- the session of the next number is in hand, or nothing new is known
@@ -173,6 +185,12 @@ module _ (b : List ℕ) (n : ℕ) where
       go true f = let k = ltb-true s n f in rw (hand_full n (λ z. omega arith), slot_beyond b (n - 1) (omega arith))
       go false f = refl
 
+pub hand_start : (b : List ℕ) (hand : Option SessionNumber) (r : Bool) → is_some hand ≡ not r → r ≡ hand_known b (hand_number hand) 0
+hand_start b None true e = hand_nothing b 0
+hand_start b None false e = absurd (false≢true e)
+hand_start b (Some s) true e = absurd (false≢true (sym e))
+hand_start b (Some s) false e = sym (ne_eqb (s.0 + 1) 0 (λ z. omega arith)) ∙ hand_nothing b (s.0 + 1)
+
 -- ---- the two ends of the pass over the sessions
 
 module _ (b : List ℕ) (n : ℕ) where
@@ -195,13 +213,13 @@ module _ (b : List ℕ) where
 
   module _ (size : length b ≡ table_bytes) (t : Table) (p : t ≡ table_of b)
       (limits-ok : Bool) (limits-said : limits-ok ≡ (within 1 t.max sessions && ltb t.mark.0 t.max)) where
-    sound_is : sound_bytes b ≡ (limits-ok && all sessions (λ s. slot_sound (abs b) s (slot_of b s)) && hand_sound (abs b) (hand_of t.hand))
+    sound_is : sound_bytes b ≡ (limits-ok && all sessions (λ s. slot_sound (abs b) s (slot_of b s)) && hand_sound (abs b) (hand_of (hand_number t.hand)))
     unfolding sound_bytes sound max_in_range mark_below table_of
-    sound_is = rw (eq-eqb (length b) table_bytes size, limits-said, p)
+    sound_is = rw (eq-eqb (length b) table_bytes size, limits-said, p, hand_back)
 
     pub sound_no_limits : limits-ok ≡ false → false ≡ sound_bytes b
     sound_no_limits e = rw (sound_is, e)
 
     pub sound_sessions : limits-ok ≡ true → (r : Bool)
-        → r ≡ (all sessions (λ s. slot_sound (abs b) s (slot_of b s)) && hand_sound (abs b) (hand_of t.hand)) → r ≡ sound_bytes b
+        → r ≡ (all sessions (λ s. slot_sound (abs b) s (slot_of b s)) && hand_sound (abs b) (hand_of (hand_number t.hand))) → r ≡ sound_bytes b
     sound_sessions d r e = rw (sound_is, d) e

@@ -11,17 +11,11 @@ given-r-requires c = (take_up_sound _ c.requires.0, c.requires.2)
 pub put_mark-requires : goal.put_mark-requires
 put_mark-requires c = sound_size _ (take_up_sound _ c.requires.0)
 
-pub overflow_add-s : goal.overflow_add-s
-overflow_add-s c = omega (
-  arith,
-  (waits _ (take_up_sound _ c.requires.0) _
-      c.requires.2).stands_there.below,
-)
-
 pub put_hand-requires : goal.put_hand-requires
 put_hand-requires c =
-    let z =
-    sound_size _ (take_up_sound _ c.requires.0) in search rules
+    let z = sound_size _ (take_up_sound _ c.requires.0) in
+    let k = (waits _ (take_up_sound _ c.requires.0) _ c.requires.2).stands_there.below in
+    (search rules, omega arith)
 
 pub returns : goal.returns
 returns c =

@@ -1,16 +1,15 @@
-use mathlib.Core.Path.{sym}
-use native.Mathlib.Omega.{arith}
-use Rattle.sessions.proofs.Loops.{all_none, all_more, all_fails, all_end}
+use Rattle.std.proofs.Common.{◌≡◌, ℕ, ◌+◌, ◌<◌, true, false, arith, rules, tests}
+use Rattle.std.proofs.lemmas.Iterator.{cases_from_all, YieldsList-from_range}
+use Rattle.sessions.specs.Sound.{in_range_and_real}
+use Rattle.slot.specs.Fields.{entry_of}
+use Rattle.table_sound.proofs.Tests.{all_is}
 use Rattle.table_sound.proofs.answers_are_real.Goals as goal
 
-pub loop-i-init : goal.loop-i-init
-loop-i-init c = (omega arith, all_none _)
-
-pub loop-i-preserved : goal.loop-i-preserved
-loop-i-preserved c = (omega arith, all_more _ c.loop-i.invariant.1 (cc))
-
-pub returns-else-in_range_and_real : goal.returns-else-in_range_and_real
-returns-else-in_range_and_real c = sym (all_fails _ _ c.loop-i-test.true (cc))
-
 pub returns : goal.returns
-returns c = sym (all_end _ c.loop-i.invariant.1 (omega arith))
+returns c =
+    let passes = λ (i : ℕ). in_range_and_real (entry_of c.args.b.now c.args.s.0 (i + 1)) in
+    all_is _ _ _
+    (cases_from_all _ _ c.all.result (λ i. i < c.args.n → passes i ≡ true) (λ i. i < c.args.n → passes i ≡ false) c.all.ensures.ran
+    (YieldsList-from_range 0 c.args.n c.args.n (cc) (omega arith))
+    (λ x q k. (search rules, λ l. grind (arith, tests)))
+    (λ x q k l. grind (arith, tests)))

@@ -6,6 +6,6 @@ pub returns-then-is_real : goal.returns-then-is_real
 unfolding in_range_and_real
 returns-then-is_real c = rw (sym c.is_real.ensures ∙ c.if-is_real.true) c.is_outcome.ensures
 
-pub returns : goal.returns
+pub returns-else-is_real : goal.returns-else-is_real
 unfolding in_range_and_real
-returns c = rw (sym c.is_real.ensures ∙ c.if-is_real.false)
+returns-else-is_real c = rw (sym c.is_real.ensures ∙ c.if-is_real.false) c.if-is_real.false
