@@ -7,6 +7,9 @@ use native.Mathlib.Omega.{arith}
 use borrow.Author.Tests.{eqb-true}
 use lib.Dec.{eqb}
 use lib.ListN.{length, length-append}
+use Rattle.delimited.specs.Separators.{byte_of}
+use Rattle.delimited.specs.declared.Delimiter.{Delimiter}
+use Rattle.delimited.specs.declared.Delimiter.TheVariants.{Tab, Comma, Semicolon, Bar}
 use Rattle.delimited.specs.Lines.{is_delimiter, separator, others, line, lines, places_of, cells_of, Each, none, and}
 
 -- what holds of the four holds of every delimiter
@@ -19,6 +22,12 @@ of_four P comma semicolon bar tab d h = go (eqb d 44) refl (eqb d 59) refl (eqb 
     go false p false q true r e t k = rw (eqb-true d 124 r) bar
     go false p false q false r true t k = rw (eqb-true d 9 t) tab
     go false p false q false r false t k = absurd (false≢true k)
+
+pub one_of_four : (d : Delimiter) → is_delimiter (byte_of d) ≡ true
+one_of_four Tab = refl
+one_of_four Comma = refl
+one_of_four Semicolon = refl
+one_of_four Bar = refl
 
 pub delimiter≢0 : (d : ℕ) → is_delimiter d ≡ true → d ≡ 0 → ⊥
 delimiter≢0 = of_four (λ d. d ≡ 0 → ⊥) (λ e. omega arith) (λ e. omega arith) (λ e. omega arith) (λ e. omega arith)

@@ -11,6 +11,8 @@ use Rattle.token.specs.Token.{content_end, is_text_at}
 use Rattle.delimited.specs.Lines.{is_delimiter}
 use Rattle.delimited.specs.Separators.{separator_at, on_separator}
 use Rattle.report.specs.Report.{Told}
+use Rattle.report.specs.declared.Field.{Field}
+use Rattle.report.specs.declared.Field.TheVariants.{Name, Value}
 use Rattle.std.specs.declared.option.Option.{Option}
 use Rattle.std.specs.declared.option.Option.TheVariants.{Some, None}
 use Rattle.std.specs.declared.result.Result.{Result as Returned}
@@ -43,6 +45,11 @@ string_end s i = cond (is_text_at s i) (Some (content_end s i + 1)) None
 
 unfoldable pub value_at : List ℕ → ℕ → Option ℕ
 value_at s i = cond (eqb (get_or s i 0) 34) (string_end s i) (numeral_at s i)
+
+-- a value is looked for, and no name
+abbrev pub is_value : Field → Bool
+is_value Name = false
+is_value Value = true
 
 -- a name, or where values are looked for a value
 unfoldable pub field_at : Bool → List ℕ → ℕ → Option ℕ

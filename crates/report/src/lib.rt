@@ -4,12 +4,12 @@
 
 ghost use Rattle.std.specs.Prelude.{◌≡◌, true, suc, ◌≤◌, ◌<◌, length, get_or};
 ghost use Rattle.field.specs.Part.{put};
-ghost use Rattle.delimited.specs.Lines.{is_delimiter};
-ghost use Rattle.report.specs.Reading.{name_at, figures_at, string_end, value_at, field_at, cell_at, line_at, lines_from, judged, cells_from, read_report};
+ghost use Rattle.delimited.specs.Separators.{byte_of};
+ghost use Rattle.report.specs.Reading.{is_value, name_at, figures_at, string_end, value_at, field_at, cell_at, line_at, lines_from, judged, cells_from, read_report};
 ghost use Rattle.report.specs.Answer.{sized, filled, paper_report_read};
 
 use counts::{COLUMNS, NUMBER_DIGITS, Reason, Refusal, TEXT_BYTES};
-use delimited::{Separator, is_delimiter, separator_at};
+use delimited::{Delimiter, Separator, separator_at};
 use field::byte_at;
 use scan::{DIGIT, TEXT, is_letter, run_end};
 use word::{is_name, word_at};
@@ -64,14 +64,22 @@ fn value_at(s: &[u8], i: usize) -> Option<usize>
     }
 }
 
-// The name at i, or where values are looked for the value: the place after it.
-pub fn field_at(s: &[u8], i: usize, values: bool) -> Option<usize>
-    ensures { result ≡ field_at values s.now i }
-{
-    if values {
-        value_at(s, i)
-    } else {
-        name_at(s, i)
+// What stands in a line: names in the first, values in those after it.
+#[derive(Clone, Copy, Debug, PartialEq, Eq, Hash)]
+pub enum Field {
+    Name,
+    Value,
+}
+
+impl Field {
+    // The one at i: the place after it.
+    pub fn end_at(self, s: &[u8], i: usize) -> Option<usize>
+        ensures { result ≡ field_at (is_value self) s.now i }
+    {
+        match self {
+            Field::Name => name_at(s, i),
+            Field::Value => value_at(s, i),
+        }
     }
 }
 
@@ -86,72 +94,80 @@ fn cell_at(s: &[u8], i: usize) -> Option<usize>
     }
 }
 
-// The line that begins at i: how many fields it has, and the place after it.
-fn line_at(s: &[u8], i: usize, d: u8, values: bool) -> Option<(usize, usize)>
-    ensures { result ≡ line_at values d s.now i }
-{
-    let mut at = i;
-    let mut k = 0;
-    while at < s.len() {
-        let end = field_at(s, at, values)?;
-        k += 1;
-        match separator_at(s, end, d) {
-            Separator::Field(next) => at = next,
-            Separator::Line(next) => return Some((k, next)),
-            Separator::Neither => return None,
-        }
-    }
-    None
+// The bytes of a file, with what separates its fields.
+#[derive(Clone, Copy)]
+struct File<'a> {
+    bytes: &'a [u8],
+    delimiter: Delimiter,
 }
 
-// The lines of values from the place i on, of as many values as there are columns: the columns and how many lines there are, or the start of the
-// first line that does not fit.
-fn lines_from(s: &[u8], i: usize, d: u8, columns: usize) -> Result<(usize, usize), usize>
-    requires { (is_delimiter d ≡ true) × (i ≤ length s.now) }
-    ensures { result ≡ lines_from (suc (length s.now)) d s.now columns i 0 }
-{
-    let mut at = i;
-    let mut k = 0;
-    while at < s.len() {
-        match line_at(s, at, d, true) {
-            Some((n, next)) if n == columns => {
-                k += 1;
-                at = next;
+impl File<'_> {
+    // The line that begins at i: how many fields it has, and the place after it.
+    fn line_at(&self, i: usize, field: Field) -> Option<(usize, usize)>
+        ensures { result ≡ line_at (is_value field) (byte_of self.now.delimiter) self.now.bytes.now i }
+    {
+        let mut at = i;
+        let mut k = 0;
+        while at < self.bytes.len() {
+            let end = field.end_at(self.bytes, at)?;
+            k += 1;
+            match separator_at(self.bytes, end, self.delimiter) {
+                Separator::Field(next) => at = next,
+                Separator::Line(next) => return Some((k, next)),
+                Separator::Neither => return None,
             }
-            _ => return Err(at),
+        }
+        None
+    }
+
+    // The lines of values from the place i on, of as many values as there are columns: the columns and how many lines there are, or the start of
+    // the first line that does not fit.
+    fn lines_from(&self, i: usize, columns: usize) -> Result<(usize, usize), usize>
+        requires { i ≤ length self.now.bytes.now }
+        ensures { result ≡ lines_from (suc (length self.now.bytes.now)) (byte_of self.now.delimiter) self.now.bytes.now columns i 0 }
+    {
+        let mut at = i;
+        let mut k = 0;
+        while at < self.bytes.len() {
+            match self.line_at(at, Field::Value) {
+                Some((n, next)) if n == columns => {
+                    k += 1;
+                    at = next;
+                }
+                _ => return Err(at),
+            }
+        }
+        Ok((columns, k))
+    }
+
+    // The whole report: its columns and its lines of values, or the start of the first line that does not fit.
+    fn judge(&self) -> Result<(usize, usize), usize>
+        ensures { result ≡ judged (byte_of self.now.delimiter) self.now.bytes.now }
+    {
+        match self.line_at(0, Field::Name) {
+            Some((columns, next)) if columns <= COLUMNS => self.lines_from(next, columns),
+            _ => Err(0),
         }
     }
-    Ok((columns, k))
-}
 
-// The whole report: its columns and its lines of values, or the start of the first line that does not fit.
-fn judge(s: &[u8], d: u8) -> Result<(usize, usize), usize>
-    requires { is_delimiter d ≡ true }
-    ensures { result ≡ judged d s.now }
-{
-    match line_at(s, 0, d, false) {
-        Some((columns, next)) if columns <= COLUMNS => lines_from(s, next, d, columns),
-        _ => Err(0),
-    }
-}
-
-// Writes the place and the length of each field to the front of the cells.
-fn fill(s: &[u8], d: u8, cells: &mut [usize])
-    requires { length (cells_from (length s.now) d s.now 0) ≤ length cells.old }
-    ensures { cells.new ≡ put cells.old 0 (cells_from (length s.now) d s.now 0) }
-{
-    let mut at = 0;
-    let mut k = 0;
-    while at < s.len() {
-        let Some(stop) = cell_at(s, at) else {
-            return;
-        };
-        cells[k] = at;
-        cells[k + 1] = stop - at;
-        k += 2;
-        match separator_at(s, stop, d) {
-            Separator::Field(next) | Separator::Line(next) => at = next,
-            Separator::Neither => return,
+    // Writes the place and the length of each field to the front of the cells. They are numbers in a row, since C lends them so.
+    fn fill(&self, cells: &mut [usize])
+        requires { length (cells_from (length self.now.bytes.now) (byte_of self.now.delimiter) self.now.bytes.now 0) ≤ length cells.old }
+        ensures { cells.new ≡ put cells.old 0 (cells_from (length self.now.bytes.now) (byte_of self.now.delimiter) self.now.bytes.now 0) }
+    {
+        let mut at = 0;
+        let mut k = 0;
+        while at < self.bytes.len() {
+            let Some(end) = cell_at(self.bytes, at) else {
+                return;
+            };
+            cells[k] = at;
+            cells[k + 1] = end - at;
+            k += 2;
+            match separator_at(self.bytes, end, self.delimiter) {
+                Separator::Field(next) | Separator::Line(next) => at = next,
+                Separator::Neither => return,
+            }
         }
     }
 }
@@ -165,15 +181,16 @@ pub fn read_report(
 ) -> Result<(usize, usize), Refusal>
     ensures { (paper_report_read result ≡ sized (read_report delimiter file.now (length cells.old))) × (cells.new ≡ filled (read_report delimiter file.now (length cells.old)) cells.old) }
 {
-    if !is_delimiter(delimiter) {
-        return Err(Reason::OutOfRange.into());
-    }
-    match judge(file, delimiter) {
+    let file = File {
+        bytes: file,
+        delimiter: Delimiter::try_from(delimiter)?,
+    };
+    match file.judge() {
         Ok((columns, lines)) => {
             if cells.len() < 2 * (columns * (lines + 1)) {
                 return Err(Reason::TooLittleRoom.into());
             }
-            fill(file, delimiter, cells);
+            file.fill(cells);
             Ok((columns, lines))
         }
         Err(place) => Err(Refusal {

@@ -3,6 +3,7 @@
 #![tactic(auto)]
 
 use counts::{Reason, Refusal};
+use delimited::Delimiter;
 use std::env::Env;
 use std::io;
 use std::io::Read;
@@ -39,9 +40,7 @@ fn read_report(file: &[u8], delimiter: u8, cells: &mut [usize]) -> Result<(usize
     if file.len() < ROOM {
         return report::read_report(file, delimiter, cells);
     }
-    if !delimited::is_delimiter(delimiter) {
-        return Err(Reason::OutOfRange.into());
-    }
+    Delimiter::try_from(delimiter)?;
     Err(Reason::TooLittleRoom.into())
 }
 

@@ -5,7 +5,7 @@ use mathlib.Core.Bool.{Bool, true, false, true≢false, cond, ◌&&◌, ◌||◌
 use mathlib.Core.List.{List, [], ◌∷◌, ◌++◌, append_assoc, append-nil}
 use native.Mathlib.Numerals.{add-one}
 use native.Mathlib.Omega.{arith}
-use borrow.Author.Tests.{eqb-true, eqb-false, le-leb, lt-leb, leb-true, leb-false}
+use borrow.Author.Tests.{eq-eqb, ne_eqb, eqb-true, eqb-false, le-leb, lt-leb, leb-true, leb-false}
 use lib.Dec.{eqb, leb}
 use lib.ListN.{length, get_or, take, drop, length-append, drop_of_length-le}
 use lib.Seq.{drop-cons}
@@ -14,7 +14,12 @@ use Rattle.field.specs.Part.{part, Wrote}
 use Rattle.field.proofs.Parts.{length_part_in}
 use Rattle.field.proofs.Put.{then, as_bytes, put_nil, wrote_length}
 use Rattle.delimited.specs.Lines.{separator}
-use Rattle.report.specs.Reading.{field_at, on_field}
+use Rattle.report.specs.Reading.{is_value, field_at, on_field}
+use Rattle.report.specs.declared.Field.{Field}
+use Rattle.report.specs.declared.Field.TheVariants.{Name, Value}
+use Rattle.report.specs.contracts.Field.{the_type}
+use denote.Enum.Bare.{sameb}
+use Rattle.std.proofs.lemmas.List.{take_all}
 use Rattle.std.specs.Option.{option_eq}
 use Rattle.std.specs.declared.option.Option.{Option}
 use Rattle.std.specs.declared.option.Option.TheVariants.{Some, None}
@@ -51,16 +56,12 @@ module _ (values : Bool) (source : List ℕ) (p n : ℕ) where
   unfolding is_cell
   cell_past h = rw (lt-leb (p + n) (length source) (omega arith))
 
--- ---- the loops
+-- ---- the loops: `rest` are the cells that are left, of which p and n are the first
 
-pub two : (cells : List ℕ) (k : ℕ) → k + 1 < length cells → drop k cells ≡ get_or cells k 0 ∷ (get_or cells (k + 1) 0 ∷ drop (k + 2) cells)
-two cells k h =
-    let e : suc (k + 1) ≡ k + 2 = omega arith in
-    drop-cons cells k 0 (omega arith) ∙ ap (λ (l : List ℕ). get_or cells k 0 ∷ l) (rw (← add-one k) (drop-cons cells (k + 1) 0 h ∙ rw e))
-
--- the last number, where there is one
-one : (cells : List ℕ) (k : ℕ) → k + 1 ≡ length cells → drop k cells ≡ get_or cells k 0 ∷ []
-one cells k e = drop-cons cells k 0 (omega arith) ∙ ap (λ (l : List ℕ). get_or cells k 0 ∷ l) (drop_of_length-le cells {i = suc k} (omega arith))
+pub two : (rest : List ℕ) → 2 ≤ length rest → rest ≡ get_or rest 0 0 ∷ (get_or rest 1 0 ∷ take (length rest - 2) (drop 2 rest))
+two [] h = absurd (omega arith)
+two (p ∷ []) h = absurd (omega arith)
+two (p ∷ (n ∷ cells)) h = ap (λ (l : List ℕ). p ∷ (n ∷ l)) (sym (take_all (suc (suc (length cells)) - 2) cells (omega arith)))
 
 pub left_some : (many left : ℕ) → 1 ≤ many → 1 ≤ left → 1 ≤ left_after many left
 left_some many left some h = go (eqb left 1) refl
@@ -69,104 +70,96 @@ left_some many left some h = go (eqb left 1) refl
     go true e = some
     go false e = let n = eqb-false left 1 e in omega arith
 
-module _ (source cells : List ℕ) (many : ℕ) (values : Bool) (left k : ℕ) where
-  lines_turn : k + 1 < length cells → are_lines source many values left (drop k cells)
-      ≡ (is_cell values source (get_or cells k 0) (get_or cells (k + 1) 0) && are_lines source many (values || eqb left 1) (left_after many left) (drop (k + 2) cells))
-  unfolding are_lines
-  lines_turn h = rw (two cells k h)
-
+module _ (source : List ℕ) (many : ℕ) (values : Bool) (left : ℕ) (rest : List ℕ) where
   -- whether the cells are lines, from here as from the start
-  module _ {e : Bool} (inv : are_lines source many values left (drop k cells) ≡ e) where
-    pub cell_yes : {r : Bool} {next : ℕ} → k + 1 < length cells → r ≡ is_cell values source (get_or cells k 0) (get_or cells (k + 1) 0) → r ≡ true
-        → next ≡ left_after many left → are_lines source many (values || eqb left 1) next (drop (k + 2) cells) ≡ e
-    cell_yes h q t m = rw m (sym (lines_turn h ∙ rw (sym q ∙ t)) ∙ inv)
+  module _ {e : Bool} (inv : are_lines source many values left rest ≡ e) where
+    module _ (p n : ℕ) (after : List ℕ) (is : rest ≡ p ∷ (n ∷ after)) where
+      turn : (is_cell values source p n && are_lines source many (values || eqb left 1) (left_after many left) after) ≡ e
+      unfolding are_lines
+      turn = rw is at inv
 
-    pub cell_no : {r : Bool} → k + 1 < length cells → r ≡ is_cell values source (get_or cells k 0) (get_or cells (k + 1) 0) → r ≡ false → false ≡ e
-    cell_no h q t = sym (lines_turn h ∙ rw (sym q ∙ t)) ∙ inv
+      pub cell_yes : is_cell values source p n ≡ true → are_lines source many (values || eqb left 1) (left_after many left) after ≡ e
+      cell_yes t = rw t at turn
 
-    pub no_cell : length cells ≤ k + 1 → k ≤ length cells → (eqb k (length cells) && values && eqb left many) ≡ e
+      pub cell_no : is_cell values source p n ≡ false → false ≡ e
+      cell_no t = rw t at turn
+
+    pub no_cell : length rest < 2 → (eqb (length rest) 0 && values && eqb left many) ≡ e
     unfolding are_lines
-    no_cell h l = go (eqb k (length cells)) refl
+    no_cell h = go rest h inv
       where
-        go : (b : Bool) → eqb k (length cells) ≡ b → (b && values && eqb left many) ≡ e
-        go true q = sym (rw (drop_of_length-le cells {i = k} (omega (arith, eqb-true k (length cells) q)))) ∙ inv
-        go false q = let m = eqb-false k (length cells) q in sym (rw (one cells k (omega arith))) ∙ inv
+        go : (rest : List ℕ) → length rest < 2 → are_lines source many values left rest ≡ e → (eqb (length rest) 0 && values && eqb left many) ≡ e
+        go [] h i = i
+        go (p ∷ []) h i = i
+        go (p ∷ (n ∷ cells)) h i = absurd (omega arith)
 
-  -- of cells that are lines: the one at k is a part of the source, and the cells after it are lines
-  module _ (inv : are_lines source many values left (drop k cells) ≡ true) (h : k + 1 < length cells) where
-    both : (is_cell values source (get_or cells k 0) (get_or cells (k + 1) 0) && are_lines source many (values || eqb left 1) (left_after many left)
-        (drop (k + 2) cells)) ≡ true
-    both = sym (lines_turn h) ∙ inv
+-- values follow where a line ends
+pub values_follow : (g : Field) (left : ℕ) {f : Field} → left ≡ 1 → f ≡ Value → is_value f ≡ (is_value g || eqb left 1)
+values_follow Name left one e = rw (e, eq-eqb left 1 one)
+values_follow Value left one e = rw e
 
-    pub cell_here : IsCell values source (get_or cells k 0) (get_or cells (k + 1) 0)
-    cell_here = tested_cell values source (get_or cells k 0) (get_or cells (k + 1) 0)
-        (and_left (is_cell values source (get_or cells k 0) (get_or cells (k + 1) 0))
-        (are_lines source many (values || eqb left 1) (left_after many left) (drop (k + 2) cells)) both)
+pub same_follows : (g : Field) (left : ℕ) {f : Field} → (left ≡ 1 → ⊥) → f ≡ g → is_value f ≡ (is_value g || eqb left 1)
+same_follows Name left more e = rw (e, ne_eqb left 1 more)
+same_follows Value left more e = rw e
 
-    pub lines_after : are_lines source many (values || eqb left 1) (left_after many left) (drop (k + 2) cells) ≡ true
-    lines_after =
-        and_right (is_cell values source (get_or cells k 0) (get_or cells (k + 1) 0))
-        (are_lines source many (values || eqb left 1) (left_after many left) (drop (k + 2) cells)) both
+pub is_the_value : (f : Field) → sameb the_type f Value ≡ is_value f
+is_the_value Name = refl
+is_the_value Value = refl
 
 -- ---- the text of the cells
 
-module _ (d : ℕ) (source cells : List ℕ) (many left k : ℕ) where
-  pub text_turn : k + 1 < length cells → text_from d source many left (drop k cells)
-      ≡ (part source (get_or cells k 0) (get_or cells (k + 1) 0) ++ separator d (eqb left 1)) ++ text_from d source many (left_after many left) (drop (k + 2) cells)
-  unfolding text_from
-  text_turn h = rw (two cells k h)
-
-  pub text_over : length cells ≤ k + 1 → text_from d source many left (drop k cells) ≡ []
-  unfolding text_from
-  text_over h = go (leb (length cells) k) refl
-    where
-      go : (b : Bool) → leb (length cells) k ≡ b → text_from d source many left (drop k cells) ≡ []
-      go true l = rw (drop_of_length-le cells (leb-true _ _ l))
-      go false l = rw (one cells k (omega (arith, leb-false (length cells) k l)))
+pub text_over : (d : ℕ) (source : List ℕ) (many left : ℕ) (rest : List ℕ) → length rest < 2 → text_from d source many left rest ≡ []
+unfolding text_from
+text_over d source many left [] h = refl
+text_over d source many left (p ∷ []) h = refl
+text_over d source many left (p ∷ (n ∷ cells)) h = absurd (omega arith)
 
 separator_length : (d : ℕ) (b : Bool) → length (separator d b) ≡ cond b 2 1
 separator_length d true = refl
 separator_length d false = refl
 
--- what one cell takes
-module _ (d : ℕ) (source cells : List ℕ) (many left k : ℕ) (h : k + 1 < length cells)
-    (room : get_or cells k 0 + get_or cells (k + 1) 0 ≤ length source) where
-  pub length_turn : length (text_from d source many left (drop k cells))
-      ≡ get_or cells (k + 1) 0 + cond (eqb left 1) 2 1 + length (text_from d source many (left_after many left) (drop (k + 2) cells))
-  length_turn =
-      let x = part source (get_or cells k 0) (get_or cells (k + 1) 0) in
-      let rest = text_from d source many (left_after many left) (drop (k + 2) cells) in
-      ap length (text_turn d source cells many left k h)
-      ∙ omega (
-        arith,
-        length-append (x ++ separator d (eqb left 1)) rest,
-        length-append x (separator d (eqb left 1)),
-        length_part_in source (get_or cells k 0) (get_or cells (k + 1) 0) room,
-        separator_length d (eqb left 1),
-      )
+-- ---- the cells that are left are lines
 
--- ---- the cells from k on are lines
-
-pub record Lines (source cells : List ℕ) (many left k : ℕ) : Type 0 where
+pub record Lines (source : List ℕ) (many left : ℕ) (rest : List ℕ) : Type 0 where
   pub values : Bool
-  pub lines : are_lines source many values left (drop k cells) ≡ true
+  pub lines : are_lines source many values left rest ≡ true
   pub some : 1 ≤ left
-  pub inside : k ≤ length cells
 
-pub lines_start : (source cells : List ℕ) (many : ℕ) → 1 ≤ many → are_lines source many false many cells ≡ true → Lines source cells many many 0
-lines_start source cells many some h = record { values = false; lines = h; some = some; inside = omega arith }
+pub lines_start : (source cells : List ℕ) (many : ℕ) → 1 ≤ many → are_lines source many false many cells ≡ true → Lines source many many cells
+lines_start source cells many some h = record { values = false; lines = h; some = some }
 
-module _ (source cells : List ℕ) (many left k : ℕ) (some : 1 ≤ many) (here : Lines source cells many left k) (h : k + 1 < length cells) where
-  pub inside_source : get_or cells k 0 + get_or cells (k + 1) 0 ≤ length source
-  inside_source = (cell_here source cells many here.values left k here.lines h).inside
+module _ (source : List ℕ) (many left : ℕ) (rest : List ℕ) (some : 1 ≤ many) (here : Lines source many left rest) (p n : ℕ) (after : List ℕ)
+    (is : rest ≡ p ∷ (n ∷ after)) where
+  both : (is_cell here.values source p n && are_lines source many (here.values || eqb left 1) (left_after many left) after) ≡ true
+  both = turn source many here.values left rest here.lines p n after is
 
-  pub lines_next : (next : ℕ) → next ≡ left_after many left → Lines source cells many next (k + 2)
+  pub inside_source : p + n ≤ length source
+  inside_source =
+      (tested_cell here.values source p n
+      (and_left (is_cell here.values source p n) (are_lines source many (here.values || eqb left 1) (left_after many left) after) both)).inside
+
+  pub lines_next : (next : ℕ) → next ≡ left_after many left → Lines source many next after
   lines_next next e = record {
     values = here.values || eqb left 1;
-    lines = rw e (lines_after source cells many here.values left k here.lines h);
+    lines = rw e (and_right (is_cell here.values source p n) (are_lines source many (here.values || eqb left 1) (left_after many left) after) both);
     some = rw e (left_some many left some here.some);
-    inside = omega arith;
   }
+
+  -- what one cell takes
+  pub length_turn : (d : ℕ) → length (text_from d source many left rest)
+      ≡ n + cond (eqb left 1) 2 1 + length (text_from d source many (left_after many left) after)
+  unfolding text_from
+  length_turn d =
+      let x = part source p n in
+      let more = text_from d source many (left_after many left) after in
+      ap (λ (l : List ℕ). length (text_from d source many left l)) is
+      ∙ omega (
+        arith,
+        length-append (x ++ separator d (eqb left 1)) more,
+        length-append x (separator d (eqb left 1)),
+        length_part_in source p n inside_source,
+        separator_length d (eqb left 1),
+      )
 
 -- ---- the room that is left
 
@@ -181,87 +174,87 @@ same_test a b c d f g = go (leb a b) refl
         not_less true q = absurd (true≢false (sym (le-leb a b (g (leb-true c d q))) ∙ e))
         not_less false q = q
 
-pub record Room (source cells : List ℕ) (many d left k free : ℕ) (e : Bool) : Type 0 where
-  pub here : Lines source cells many left k
-  pub same : leb (length (text_from d source many left (drop k cells))) free ≡ e
+pub record Room (source : List ℕ) (many d left : ℕ) (rest : List ℕ) (free : ℕ) (e : Bool) : Type 0 where
+  pub here : Lines source many left rest
+  pub same : leb (length (text_from d source many left rest)) free ≡ e
 
-module _ (source cells : List ℕ) (many d left k free : ℕ) (e : Bool) (room : Room source cells many d left k free e) where
-  pub room_over : length cells ≤ k + 1 → true ≡ e
-  room_over h = sym (le-leb _ free (rw (text_over d source cells many left k h) (omega arith))) ∙ room.same
+module _ (source : List ℕ) (many d left : ℕ) (rest : List ℕ) (free : ℕ) (e : Bool) (room : Room source many d left rest free e) where
+  pub room_over : length rest < 2 → true ≡ e
+  room_over h = sym (le-leb _ free (rw (text_over d source many left rest h) (omega arith))) ∙ room.same
 
-  module _ (some : 1 ≤ many) (h : k + 1 < length cells) (width : ℕ) (is : width ≡ cond (eqb left 1) 2 1) where
+  module _ (some : 1 ≤ many) (p n : ℕ) (after : List ℕ) (is : rest ≡ p ∷ (n ∷ after)) (width : ℕ) (wide : width ≡ cond (eqb left 1) 2 1) where
     -- what a cell takes is a number of this machine
-    pub taken_fits : get_or cells (k + 1) 0 + width ≤ length source + 2
-    taken_fits = rw is (go (eqb left 1))
+    pub taken_fits : n + width ≤ length source + 2
+    taken_fits = rw wide (go (eqb left 1))
       where
-        go : (b : Bool) → get_or cells (k + 1) 0 + cond b 2 1 ≤ length source + 2
-        go true = omega (arith, inside_source source cells many left k some room.here h)
-        go false = omega (arith, inside_source source cells many left k some room.here h)
+        go : (b : Bool) → n + cond b 2 1 ≤ length source + 2
+        go true = omega (arith, inside_source source many left rest some room.here p n after is)
+        go false = omega (arith, inside_source source many left rest some room.here p n after is)
 
-    long : length (text_from d source many left (drop k cells)) ≡ get_or cells (k + 1) 0 + width + length
-        (text_from d source many (left_after many left) (drop (k + 2) cells))
-    long = rw is (length_turn d source cells many left k h (inside_source source cells many left k some room.here h))
+    long : length (text_from d source many left rest) ≡ n + width + length (text_from d source many (left_after many left) after)
+    long = rw wide (length_turn source many left rest some room.here p n after is d)
 
-    pub no_room : free < get_or cells (k + 1) 0 + width → false ≡ e
+    pub no_room : free < n + width → false ≡ e
     no_room l = sym (lt-leb _ free (omega (arith, long))) ∙ room.same
 
-    pub room_next : (next : ℕ) → next ≡ left_after many left → get_or cells (k + 1) 0 + width ≤ free
-        → Room source cells many d next (k + 2) (free - (get_or cells (k + 1) 0 + width)) e
+    pub room_next : (next : ℕ) → next ≡ left_after many left → n + width ≤ free → Room source many d next after (free - (n + width)) e
     room_next next q l = record {
-      here = lines_next source cells many left k some room.here h next q;
+      here = lines_next source many left rest some room.here p n after is next q;
       same = rw q
-          (same_test (length (text_from d source many (left_after many left) (drop (k + 2) cells))) (free - (get_or cells (k + 1) 0 + width))
-          (length (text_from d source many left (drop k cells))) free (λ x. omega (arith, long)) (λ x. omega (arith, long)) ∙ room.same);
+          (same_test (length (text_from d source many (left_after many left) after)) (free - (n + width)) (length (text_from d source many left rest)) free
+          (λ x. omega (arith, long)) (λ x. omega (arith, long)) ∙ room.same);
     }
 
 -- ---- the text that is written
 
-pub record Written (source cells : List ℕ) (many d left k : ℕ) (all lent out : List ℕ) (at : ℕ) : Type 0 where
-  pub here : Lines source cells many left k
+pub record Written (source : List ℕ) (many d left : ℕ) (rest all lent out : List ℕ) (at : ℕ) : Type 0 where
+  pub here : Lines source many left rest
   pub front : List ℕ
   pub wrote : Wrote lent 0 front out at
-  pub same : front ++ text_from d source many left (drop k cells) ≡ all
+  pub same : front ++ text_from d source many left rest ≡ all
 
 pub written_start : (source cells : List ℕ) (many d : ℕ) (lent : List ℕ) → 1 ≤ many → are_lines source many false many cells ≡ true
-    → Written source cells many d many 0 (text_from d source many many cells) lent lent 0
+    → Written source many d many cells (text_from d source many many cells) lent lent 0
 written_start source cells many d lent some h =
     record { here = lines_start source cells many some h; front = []; wrote = record { next = refl; bytes = sym (put_nil lent 0) }; same = refl }
 
-module _ (source cells : List ℕ) (many d left k : ℕ) (all lent out : List ℕ) (at : ℕ) (w : Written source cells many d left k all lent out at) where
-  pub written_over : length cells ≤ k + 1 → Wrote lent 0 all out at
+module _ (source : List ℕ) (many d left : ℕ) (rest all lent out : List ℕ) (at : ℕ) (w : Written source many d left rest all lent out at) where
+  pub written_over : length rest < 2 → Wrote lent 0 all out at
   written_over h =
-      as_bytes w.wrote (sym (append-nil w.front) ∙ ap (λ (l : List ℕ). w.front ++ l) (sym (text_over d source cells many left k h)) ∙ w.same)
+      as_bytes w.wrote (sym (append-nil w.front) ∙ ap (λ (l : List ℕ). w.front ++ l) (sym (text_over d source many left rest h)) ∙ w.same)
 
-  module _ (some : 1 ≤ many) (h : k + 1 < length cells) where
+  module _ (some : 1 ≤ many) (p n : ℕ) (after : List ℕ) (is : rest ≡ p ∷ (n ∷ after)) where
     abbrev bytes : List ℕ
-    bytes = part source (get_or cells k 0) (get_or cells (k + 1) 0) ++ separator d (eqb left 1)
+    bytes = part source p n ++ separator d (eqb left 1)
 
-    pub cell_fits : length all ≤ length lent
-        → (get_or cells k 0 + get_or cells (k + 1) 0 ≤ length source) × (at + (get_or cells (k + 1) 0 + length (separator d (eqb left 1))) ≤ length out)
+    text_turn : text_from d source many left rest ≡ bytes ++ text_from d source many (left_after many left) after
+    unfolding text_from
+    text_turn = ap (text_from d source many left) is
+
+    pub cell_fits : length all ≤ length lent → (p + n ≤ length source) × (at + (n + length (separator d (eqb left 1))) ≤ length out)
     cell_fits room =
-        let inside = inside_source source cells many left k some w.here h in
-        let x = part source (get_or cells k 0) (get_or cells (k + 1) 0) in
-        let rest = text_from d source many (left_after many left) (drop (k + 2) cells) in (
+        let inside = inside_source source many left rest some w.here p n after is in
+        let x = part source p n in
+        let more = text_from d source many (left_after many left) after in (
           inside,
           omega (
             arith,
             w.wrote.next,
             wrote_length w.wrote,
             ap length w.same,
-            ap length (text_turn d source cells many left k h),
-            length-append w.front (text_from d source many left (drop k cells)),
-            length-append (x ++ separator d (eqb left 1)) rest,
+            ap length text_turn,
+            length-append w.front (text_from d source many left rest),
+            length-append (x ++ separator d (eqb left 1)) more,
             length-append x (separator d (eqb left 1)),
-            length_part_in source (get_or cells k 0) (get_or cells (k + 1) 0) inside,
+            length_part_in source p n inside,
           ),
         )
 
-    pub written_next : (next after : ℕ) (exit : List ℕ) → next ≡ left_after many left → Wrote out at bytes exit after
-        → Written source cells many d next (k + 2) all lent exit after
-    written_next next after exit q one_more = record {
-      here = lines_next source cells many left k some w.here h next q;
+    pub written_next : (next to : ℕ) (exit : List ℕ) → next ≡ left_after many left → Wrote out at bytes exit to
+        → Written source many d next after all lent exit to
+    written_next next to exit q one_more = record {
+      here = lines_next source many left rest some w.here p n after is next q;
       front = w.front ++ bytes;
       wrote = then w.wrote one_more;
-      same = rw q (append_assoc w.front bytes (text_from d source many (left_after many left) (drop (k + 2) cells))
-          ∙ ap (λ (l : List ℕ). w.front ++ l) (sym (text_turn d source cells many left k h)) ∙ w.same);
+      same = rw q (append_assoc w.front bytes (text_from d source many (left_after many left) after) ∙ ap (λ (l : List ℕ). w.front ++ l) (sym text_turn) ∙ w.same);
     }

@@ -1,19 +1,23 @@
 -- What the writer's tests give, and what its contract asks where they are passed and where they are not.
-use Prim.Native.Nat.{ℕ, ◌≤◌}
+use Prim.Native.Nat.{ℕ, ◌≤◌, ◌<◌}
 use mathlib.Core.Path.{◌≡◌, refl, sym, ap, ◌∙◌}
-use mathlib.Core.Bool.{Bool, true, false, ◌&&◌}
+use mathlib.Core.Bool.{Bool, true, false, ◌&&◌, and-false}
 use mathlib.Core.List.{List}
 use native.Mathlib.Omega.{arith}
 use lib.Dec.{leb}
 use lib.ListN.{length}
-use borrow.Author.Tests.{leb-true, eq-eqb, ne_eqb}
+use borrow.Author.Tests.{leb-true, le-leb, lt-leb, eq-eqb, ne_eqb}
 use Rattle.laws.proofs.Choose.{and_left, and_right}
 use Rattle.counts.specs.Limits.{columns}
+use Rattle.counts.specs.Refusals.{out_of_range}
 use Rattle.counts.proofs.Results.{first_way}
 use Rattle.counts.specs.Result.{refused, done, counted}
 use Rattle.field.specs.Part.{Wrote}
+use Rattle.delimited.specs.Separators.{byte_of}
+use Rattle.delimited.specs.declared.Delimiter.{Delimiter}
+use Rattle.delimited.proofs.Lines.{one_of_four}
 use Rattle.delimited.specs.Lines.{is_delimiter}
-use Rattle.report_write.specs.Writing.{are_lines, text_from, may_write, write_refusal, written, filled}
+use Rattle.report_write.specs.Writing.{InRange, are_lines, text_from, may_write, write_refusal, written, filled}
 
 -- the four delimiters, 1 to 64 columns
 pub record May (d many : ℕ) : Type 0 where
@@ -31,8 +35,23 @@ may d many h =
       few = leb-true many columns (and_right (is_delimiter d && leb 1 many) (leb many columns) h);
     }
 
-pub may_tested : (d many : ℕ) (r : Bool) → r ≡ may_write d many → r ≡ true → 1 ≤ many
-may_tested d many r is t = (may d many (sym is ∙ t)).some
+-- what its range asks, and what is out of it
+module _ (d many : ℕ) where
+  pub no_delimiter : is_delimiter d ≡ false → may_write d many ≡ false
+  unfolding may_write
+  no_delimiter h = rw h
+
+  pub no_column : many < 1 → may_write d many ≡ false
+  unfolding may_write
+  no_column h = rw (lt-leb 1 many h, and-false)
+
+  pub many_columns : columns < many → may_write d many ≡ false
+  unfolding may_write
+  many_columns h = rw (lt-leb many columns h, and-false)
+
+pub in_range : (d : Delimiter) (many : ℕ) → InRange many → may_write (byte_of d) many ≡ true
+unfolding may_write
+in_range d many h = rw (one_of_four d, le-leb 1 many h.0, le-leb many columns h.1)
 
 module _ (source cells : List ℕ) (many d : ℕ) where
   pub record Passed (room : ℕ) : Type 0 where
@@ -47,6 +66,11 @@ module _ (source cells : List ℕ) (many d : ℕ) where
       let (lines, h2) = first_way (are_lines source many false many cells) _ 6 h1 in
       let (fits, h3) = first_way (leb (length (text_from d source many many cells)) room) _ 7 h2 in
       record { may_be = may d many range; lines = lines; fits = leb-true _ room fits }
+
+  pub range_refused : (out : List ℕ) → may_write d many ≡ false
+      → (refused out_of_range 0 ≡ counted (written source cells many d (length out))) × (out ≡ filled (written source cells many d (length out)) out)
+  unfolding written write_refusal
+  range_refused out h = rw h (refl, refl)
 
   pub wrote_report : {out e : List ℕ} {r : ℕ} → write_refusal source cells many d (length out) ≡ 0 → Wrote out 0 (text_from d source many many cells) e r
       → (done r ≡ counted (written source cells many d (length out))) × (e ≡ filled (written source cells many d (length out)) out)

@@ -1,5 +1,5 @@
 -- What `write_report` answers and leaves (document 02, P1).
-use Rattle.std.specs.Prelude.{ℕ, ◌+◌, ◌-◌, Bool, false, cond, ◌&&◌, ◌||◌, List, [], ◌∷◌, ◌++◌, eqb, leb, length}
+use Rattle.std.specs.Prelude.{ℕ, ◌+◌, ◌-◌, ◌≤◌, Bool, false, cond, ◌&&◌, ◌||◌, List, [], ◌∷◌, ◌++◌, eqb, leb, length}
 use Rattle.counts.specs.Limits.{columns}
 use Rattle.counts.specs.Refusals.{out_of_range, not_a_record, too_little_room}
 use Rattle.counts.specs.Result.{Result, paper}
@@ -40,6 +40,10 @@ text_from d source many left [] = []
 text_from d source many left (p ∷ []) = []
 text_from d source many left (p ∷ (n ∷ cells)) =
     (part source p n ++ separator d (eqb left 1)) ++ text_from d source many (left_after many left) cells
+
+-- the column count in its range
+abbrev pub InRange : ℕ → Type 0
+InRange many = (1 ≤ many) × (many ≤ columns)
 
 -- the delimiter is one of the four, and the column count in its range
 unfoldable pub may_write : ℕ → ℕ → Bool

@@ -5,52 +5,27 @@ ghost use Rattle.std.specs.Prelude.{◌≡◌, true, false, cond, ◌++◌, ◌+
 ghost use Rattle.counts.specs.Result.{counted, refused_by};
 ghost use Rattle.field.specs.Part.{part, Wrote};
 ghost use Rattle.delimited.specs.Lines.{separator};
-ghost use Rattle.report_write.specs.Writing.{is_field, is_cell, left_after, are_lines, text_from, may_write, write_refusal, written, filled, paper_report_written};
+ghost use Rattle.delimited.specs.Separators.{byte_of};
+ghost use Rattle.report.specs.Reading.{is_value};
+ghost use Rattle.report_write.specs.Writing.{InRange, is_field, is_cell, left_after, are_lines, text_from, write_refusal, written, filled, paper_report_written};
 
 use counts::{COLUMNS, Reason, Refusal};
-use delimited::{is_delimiter, put_separator};
+use delimited::{Delimiter, put_separator};
 use field::put_bytes;
-use report::field_at;
+use report::Field;
 
-// Whether the bytes are one name, or where values are written one value.
-fn is_field(x: &[u8], values: bool) -> bool
-    ensures { result ≡ is_field values x.now }
+// Whether the bytes are one name, or one value.
+fn is_field(x: &[u8], field: Field) -> bool
+    ensures { result ≡ is_field (is_value field) x.now }
 {
-    field_at(x, 0, values) == Some(x.len())
+    field.end_at(x, 0) == Some(x.len())
 }
 
 // Whether the n bytes of the source from p on are one.
-fn is_cell(source: &[u8], p: usize, n: usize, values: bool) -> bool
-    ensures { result ≡ is_cell values source.now p n }
+fn is_cell(source: &[u8], p: usize, n: usize, field: Field) -> bool
+    ensures { result ≡ is_cell (is_value field) source.now p n }
 {
-    p <= source.len() && n <= source.len() - p && is_field(&source[p..p + n], values)
-}
-
-fn left_after(columns: usize, left: usize) -> usize
-    requires { 1 ≤ left }
-    ensures { result ≡ left_after columns left }
-{
-    if left == 1 { columns } else { left - 1 }
-}
-
-// Whether the cells are a line of names and whole lines of values.
-fn are_lines(source: &[u8], cells: &[usize], columns: usize) -> bool
-    requires { 1 ≤ columns }
-    ensures { result ≡ are_lines source.now columns false columns cells.now }
-{
-    let mut k = 0;
-    let mut left = columns;
-    let mut values = false;
-    while k + 1 < cells.len() {
-        if is_cell(source, cells[k], cells[k + 1], values) {
-            values = values | (left == 1);
-            left = left_after(columns, left);
-            k += 2;
-        } else {
-            return false;
-        }
-    }
-    (k == cells.len()) & values & (left == columns)
+    p <= source.len() && n <= source.len() - p && is_field(&source[p..p + n], field)
 }
 
 // How many bytes follow a field, by how many fields of its line are left.
@@ -60,86 +35,103 @@ fn separator_length(left: usize) -> usize
     if left == 1 { 2 } else { 1 }
 }
 
-// Whether there is room for the text of the cells.
-fn has_room(source: &[u8], cells: &[usize], columns: usize, d: u8, room: usize) -> bool
-    requires { (1 ≤ columns) × (are_lines source.now columns false columns cells.now ≡ true) }
-    ensures { result ≡ leb (length (text_from d source.now columns columns cells.now)) room }
-{
-    let mut k = 0;
-    let mut left = columns;
-    let mut free = room;
-    while k + 1 < cells.len() {
-        let needed = cells[k + 1] + separator_length(left);
-        if free < needed {
-            return false;
-        }
-        free -= needed;
-        left = left_after(columns, left);
-        k += 2;
-    }
-    true
-}
-
-// Writes one cell and what follows it, and gives the place after that.
-fn put_cell(
-    out: &mut [u8],
-    at: usize,
-    source: &[u8],
-    p: usize,
-    n: usize,
-    d: u8,
-    last: bool,
-) -> usize
-    requires { (p + n ≤ length source.now) × (at + (n + length (separator d last)) ≤ length out.old) }
-    ensures { Wrote out.old at (part source.now p n ++ separator d last) out.new result }
-{
-    let end = put_bytes(out, at, &source[p..p + n]);
-    put_separator(out, end, d, last)
-}
-
-// Writes the text of the cells from the start of out on, and gives the place after it.
-fn put_cells(source: &[u8], cells: &[usize], columns: usize, d: u8, out: &mut [u8]) -> usize
-    requires { (1 ≤ columns) × (are_lines source.now columns false columns cells.now ≡ true) × (length (text_from d source.now columns columns cells.now) ≤ length out.old) }
-    ensures { Wrote out.old 0 (text_from d source.now columns columns cells.now) out.new result }
-{
-    let mut k = 0;
-    let mut left = columns;
-    let mut at = 0;
-    while k + 1 < cells.len() {
-        at = put_cell(out, at, source, cells[k], cells[k + 1], d, left == 1);
-        left = left_after(columns, left);
-        k += 2;
-    }
-    at
-}
-
-// Whether the delimiter is one of the four, and the column count in its range.
-fn may_write(d: u8, columns: usize) -> bool
-    ensures { result ≡ may_write d columns }
-{
-    is_delimiter(d) & (1 <= columns) & (columns <= COLUMNS)
-}
-
-// Why the cells and the room for their text are refused, if they are.
-fn write_refusal(
-    source: &[u8],
-    cells: &[usize],
+// What a report is written from: a cell for each name and each value, line by line, which is its place and its length in the source; how many
+// cells a line has; what separates them. The cells are numbers in a row, since C lends them so.
+#[derive(Clone, Copy)]
+struct Draft<'a> {
+    source: &'a [u8],
+    cells: &'a [usize],
     columns: usize,
-    d: u8,
-    room: usize,
-) -> Result<(), Reason>
-    ensures { refused_by result ≡ write_refusal source.now cells.now columns d room }
-{
-    if !may_write(d, columns) {
-        return Err(Reason::OutOfRange);
+    delimiter: Delimiter,
+    ghost in_range: { InRange columns },
+}
+
+impl Draft<'_> {
+    // How many fields of a line are left after one of those left.
+    fn left_after(&self, left: usize) -> usize
+        requires { 1 ≤ left }
+        ensures { result ≡ left_after self.now.columns left }
+    {
+        if left == 1 { self.columns } else { left - 1 }
     }
-    if !are_lines(source, cells, columns) {
-        return Err(Reason::NotARecord);
+
+    // Whether the cells are a line of names and whole lines of values.
+    fn are_lines(&self) -> bool
+        ensures { result ≡ are_lines self.now.source.now self.now.columns false self.now.columns self.now.cells.now }
+    {
+        let mut rest = self.cells;
+        let mut left = self.columns;
+        let mut field = Field::Name;
+        while let [place, length, after @ ..] = rest {
+            if !is_cell(self.source, *place, *length, field) {
+                return false;
+            }
+            if left == 1 {
+                field = Field::Value;
+            }
+            left = self.left_after(left);
+            rest = after;
+        }
+        rest.is_empty() & (field == Field::Value) & (left == self.columns)
     }
-    if !has_room(source, cells, columns, d, room) {
-        return Err(Reason::TooLittleRoom);
+
+    // Whether there is room for the text of the cells.
+    fn has_room(&self, room: usize) -> bool
+        requires { are_lines self.now.source.now self.now.columns false self.now.columns self.now.cells.now ≡ true }
+        ensures { result ≡ leb (length (text_from (byte_of self.now.delimiter) self.now.source.now self.now.columns self.now.columns self.now.cells.now)) room }
+    {
+        let mut rest = self.cells;
+        let mut left = self.columns;
+        let mut free = room;
+        while let [_, length, after @ ..] = rest {
+            let needed = *length + separator_length(left);
+            if free < needed {
+                return false;
+            }
+            free -= needed;
+            left = self.left_after(left);
+            rest = after;
+        }
+        true
     }
-    Ok(())
+
+    // Why the cells and the room for their text are refused, if they are.
+    fn check(&self, room: usize) -> Result<(), Reason>
+        ensures { refused_by result ≡ write_refusal self.now.source.now self.now.cells.now self.now.columns (byte_of self.now.delimiter) room }
+    {
+        if !self.are_lines() {
+            return Err(Reason::NotARecord);
+        }
+        if !self.has_room(room) {
+            return Err(Reason::TooLittleRoom);
+        }
+        Ok(())
+    }
+
+    // Writes one cell and what follows it, and gives the place after that.
+    fn put_cell(&self, out: &mut [u8], at: usize, p: usize, n: usize, last: bool) -> usize
+        requires { (p + n ≤ length self.now.source.now) × (at + (n + length (separator (byte_of self.now.delimiter) last)) ≤ length out.old) }
+        ensures { Wrote out.old at (part self.now.source.now p n ++ separator (byte_of self.now.delimiter) last) out.new result }
+    {
+        let end = put_bytes(out, at, &self.source[p..p + n]);
+        put_separator(out, end, self.delimiter, last)
+    }
+
+    // Writes the text of the cells from the start of out on, and gives the place after it.
+    fn put_cells(&self, out: &mut [u8]) -> usize
+        requires { (are_lines self.now.source.now self.now.columns false self.now.columns self.now.cells.now ≡ true) × (length (text_from (byte_of self.now.delimiter) self.now.source.now self.now.columns self.now.columns self.now.cells.now) ≤ length out.old) }
+        ensures { Wrote out.old 0 (text_from (byte_of self.now.delimiter) self.now.source.now self.now.columns self.now.columns self.now.cells.now) out.new result }
+    {
+        let mut rest = self.cells;
+        let mut left = self.columns;
+        let mut at = 0;
+        while let [place, length, after @ ..] = rest {
+            at = self.put_cell(out, at, *place, *length, left == 1);
+            left = self.left_after(left);
+            rest = after;
+        }
+        at
+    }
 }
 
 // Writes the report of the cells at the start of out, and gives how many bytes it wrote. Every other byte of out stays.
@@ -152,6 +144,16 @@ pub fn write_report(
 ) -> Result<usize, Refusal>
     ensures { (paper_report_written result ≡ counted (written source.now cells.now columns delimiter (length out.old))) × (out.new ≡ filled (written source.now cells.now columns delimiter (length out.old)) out.old) }
 {
-    write_refusal(source, cells, columns, delimiter, out.len())?;
-    Ok(put_cells(source, cells, columns, delimiter, out))
+    let delimiter = Delimiter::try_from(delimiter)?;
+    if columns < 1 || COLUMNS < columns {
+        return Err(Reason::OutOfRange.into());
+    }
+    let draft = Draft {
+        source,
+        cells,
+        columns,
+        delimiter,
+    };
+    draft.check(out.len())?;
+    Ok(draft.put_cells(out))
 }

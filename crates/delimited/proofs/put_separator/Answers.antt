@@ -13,4 +13,4 @@ pub bounds-out-at : goal.bounds-out-at
 bounds-out-at c = omega (arith, rw c.if-last.false at c.requires)
 
 pub returns : goal.returns
-returns c = rw c.if-last.false (wrote_byte _ _ _)
+returns c = rw (c.if-last.false, c.byte.ensures) (wrote_byte _ _ _)

@@ -1,7 +1,7 @@
--- `report_write::put_cell` meets its contract.
+-- `report_write::Draft::put_cell` meets its contract.
 use Rattle.field.proofs.Put.{then, as_bytes}
 use Rattle.report_write.proofs.Loops.{handed_on}
-use Rattle.report_write.proofs.put_cell.Goals as goal
+use Rattle.report_write.proofs.Draft.put_cell.Goals as goal
 
 pub returns : goal.returns
 returns c =

@@ -3,7 +3,7 @@ use mathlib.Core.Path.{sym}
 use native.Mathlib.Omega.{arith}
 use lib.ListN.{length-set}
 use Rattle.report.proofs.Loops.{cells_start, cells_length, cells_over, no_cell, cell_ahead, cell_fits, next_ahead, next_cell, cell_last}
-use Rattle.report.proofs.fill.Goals as goal
+use Rattle.report.proofs.File.fill.Goals as goal
 
 pub loop-at-init : goal.loop-at-init
 loop-at-init c = cells_start _ _ _

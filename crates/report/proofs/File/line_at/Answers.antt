@@ -1,7 +1,7 @@
 use mathlib.Core.Path.{◌∙◌}
 use native.Mathlib.Omega.{arith}
 use Rattle.report.proofs.Loops.{fields_start, fields_past, no_field, field_room, another_ahead, another, line_over, neither}
-use Rattle.report.proofs.line_at.Goals as goal
+use Rattle.report.proofs.File.line_at.Goals as goal
 
 pub loop-at-init : goal.loop-at-init
 loop-at-init c = fields_start _ _ _ _
