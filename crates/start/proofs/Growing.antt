@@ -9,16 +9,8 @@ use lib.IntN.{ℤ, nat_abs}
 use Rattle.decimal.proofs.Laws.{tenfold, ten_le}
 use Rattle.start.specs.Decision.{negative, mantissa_limit, Grown, Levelled}
 
-pub begun : (m : ℕ) → m ≡ m * 10 ^ 0
-begun m = sym (mul-one m)
-
 pub one_more : (m i r : ℕ) → r ≡ m * 10 ^ i → r * 10 ≡ m * 10 ^ (i + 1)
 one_more m i r e = ap (λ (k : ℕ). k * 10) e ∙ mul_assoc m (10 ^ i) 10 ∙ ap (λ (k : ℕ). m * k) (sym (tenfold i))
-
-pub whole : (m i by r : ℕ) → r ≡ m * 10 ^ i → i ≤ by → by ≤ i → r < 10 * mantissa_limit → Grown (m * 10 ^ by) r
-whole m i by r e l h s =
-    let same : i ≡ by = omega arith in
-    record { as_far = inl (e ∙ ap (λ (k : ℕ). m * 10 ^ k) same); most = s }
 
 -- what is beyond stays beyond
 pub beyond : (m i by r : ℕ) → r ≡ m * 10 ^ i → i ≤ by → mantissa_limit ≤ r → r < 10 * mantissa_limit → Grown (m * 10 ^ by) r

@@ -1,4 +1,3 @@
-pub mod Signs
 pub mod Growing
 pub mod Levels
 pub mod Tested

@@ -2,11 +2,12 @@
 use Prim.Native.Nat.{ℕ, ◌+◌, ◌-◌, ◌*◌, ◌^◌, ◌≤◌, ◌<◌}
 use mathlib.Core.Path.{◌≡◌, refl, sym, ap, ap₂, ◌∙◌}
 use mathlib.Core.Bool.{Bool, true, false, ◌&&◌}
-use mathlib.Core.List.{List, []}
+use mathlib.Core.List.{List, [], ◌∷◌}
 use mathlib.Core.Logic.{◌⊎◌, inl, inr, ⊎_swap}
 use native.Mathlib.Omega.{arith}
 use borrow.Author.Tests.{ne_eqb}
-use lib.Dec.{ltb}
+use lib.Dec.{eqb, ltb}
+use lib.Pointwise.{pointwise}
 use lib.IntN.{ℤ, nat_abs}
 use lib.ListN.{length}
 use Rattle.counts.specs.Limits.{number_digits}
@@ -14,16 +15,10 @@ use Rattle.counts.specs.Refusals.{not_real, not_a_record, not_comparable}
 use Rattle.counts.specs.Result.{refused, done}
 use Rattle.counts.proofs.Results.{first_way}
 use Rattle.laws.proofs.Choose.{halves}
-use Rattle.field.specs.Bytes.{same, has_at}
-use Rattle.field.proofs.Parts.{part_all}
-use Rattle.field.proofs.Same.{same_length}
+use Rattle.field.specs.Bytes.{same}
 use Rattle.grammar.specs.Statement as read
 use Rattle.grammar.specs.Statement.{Operator, Number, Start}
-use Rattle.meaning.specs.Paper.{paper_start, paper_value}
-use Rattle.std.specs.declared.option.Option.{Option}
-use Rattle.std.specs.declared.option.Option.TheVariants.{Some, None}
-use Rattle.statement.specs.declared.Start.{Start as Clause}
-use Rattle.statement.specs.declared.Start.TheVariants.{At}
+use Rattle.meaning.specs.Paper.{paper_value}
 use Rattle.statement.specs.declared.Operand.{Operand}
 use Rattle.statement.specs.declared.Operand.TheVariants as operand
 use Rattle.start.specs.Due.{Compared, number, Given}
@@ -70,12 +65,12 @@ module _ (o : Operator) (v k : Number) (a b : ℤ) (a-is : a ≡ v.mantissa) (b-
 
 -- ---- strings
 
-pub same_so : (shown c t : List ℕ) (r : Bool) → c ≡ shown → length c ≡ length t → r ≡ has_at c 0 t → r ≡ same shown t
-unfolding has_at
-same_so shown c t r e l h = h ∙ rw (part_all c (length t) (omega arith)) (ap (λ (b : List ℕ). same b t) e)
-
-pub differs_so : (shown c t : List ℕ) → c ≡ shown → (length c ≡ length t → ⊥) → false ≡ same shown t
-differs_so shown c t e l = sym (ap (λ (b : List ℕ). same b t) (sym e) ∙ same_length c t l)
+pub by_elements : (s t : List ℕ) → pointwise eqb s t ≡ same s t
+unfolding same
+by_elements [] [] = refl
+by_elements [] (y ∷ t) = refl
+by_elements (x ∷ s) [] = refl
+by_elements (x ∷ s) (y ∷ t) = ap (λ (b : Bool). eqb x y && b) (by_elements s t)
 
 -- ---- conditions
 
@@ -110,14 +105,6 @@ numbers_permitted s o k v h =
     (b.1, b.0)
 
 -- ---- the decision
-
--- of a time nothing is asked but that it is real
-pub time_not_refused : (s : List ℕ) (v : Compared) (x : Clause) {time : ℕ} {d : Option ℕ} → x ≡ At time d → 0 ≡ clause_refusal s v (paper_start x)
-time_not_refused s v x {time} {d} e = rw e (go d)
-  where
-    go : (d : Option ℕ) → 0 ≡ clause_refusal s v (paper_start (At time d))
-    go None = refl
-    go (Some date) = refl
 
 module _ (g : Given) (x : Start) where
   pub unreal_so : all_real g.date g.time g.taken_up x ≡ false → refused not_real 0 ≡ decision g x

@@ -36,20 +36,12 @@ struct SignAndSize {
     size: u64,
 }
 
-// One is added before the sign changes, since the least number has no negative.
 fn sign_and_size(m: i64) -> SignAndSize
     ensures { (result.minus ≡ negative m) × (result.size ≡ nat_abs m) }
 {
-    if m < 0 {
-        let below = 0 - (m + 1);
-        return SignAndSize {
-            minus: true,
-            size: below as u64 + 1,
-        };
-    }
     SignAndSize {
-        minus: false,
-        size: m as u64,
+        minus: m < 0,
+        size: m.unsigned_abs(),
     }
 }
 
@@ -67,13 +59,11 @@ fn grown(m: u64, by: u32) -> u64
     ensures { Grown (m * 10 ^ by) result }
 {
     let mut r = m;
-    let mut i = 0;
-    while i < by {
+    for _ in 0..by {
         if MANTISSA_LIMIT <= r {
             return r;
         }
-        r = r * 10;
-        i += 1;
+        r *= 10;
     }
     r
 }
@@ -122,11 +112,7 @@ fn number_holds(o: Operator, v: Number, k: Number) -> bool
 fn is_same(file: &[u8], quote: usize, text: &[u8]) -> bool
     ensures { result ≡ same (text_at file.now quote) text.now }
 {
-    let constant = job::text_at(file, quote);
-    if constant.len() == text.len() {
-        return field::has_at(constant, 0, text);
-    }
-    false
+    job::text_at(file, quote) == text
 }
 
 fn by_same(o: Operator, is: bool) -> bool
@@ -135,10 +121,7 @@ fn by_same(o: Operator, is: bool) -> bool
     match o {
         Operator::Equal => is,
         Operator::NotEqual => !is,
-        Operator::Above => false,
-        Operator::Below => false,
-        Operator::AtLeast => false,
-        Operator::AtMost => false,
+        _ => false,
     }
 }
 
@@ -146,14 +129,7 @@ fn by_same(o: Operator, is: bool) -> bool
 fn no_order(o: Operator) -> bool
     ensures { result ≡ no_order (paper_operator o) }
 {
-    match o {
-        Operator::Equal => true,
-        Operator::NotEqual => true,
-        Operator::Above => false,
-        Operator::Below => false,
-        Operator::AtLeast => false,
-        Operator::AtMost => false,
-    }
+    matches!(o, Operator::Equal | Operator::NotEqual)
 }
 
 fn value_permitted(value: Present, text: &[u8]) -> bool
@@ -178,15 +154,10 @@ fn constant_permitted(constant: Operand, file: &[u8]) -> bool
 fn is_comparable(o: Operator, constant: Operand, value: Present) -> bool
     ensures { result ≡ comparable (paper_operator o) (present_value value []) (constant_of [] (paper_value constant)) }
 {
-    match constant {
-        Operand::Number(_) => match value {
-            Present::Number(_) => true,
-            Present::Text => false,
-        },
-        Operand::Text(_) => match value {
-            Present::Number(_) => false,
-            Present::Text => no_order(o),
-        },
+    match (constant, value) {
+        (Operand::Number(_), Present::Number(_)) => true,
+        (Operand::Text(_), Present::Text) => no_order(o),
+        _ => false,
     }
 }
 
@@ -214,15 +185,10 @@ fn condition_holds(o: Operator, constant: Operand, file: &[u8], value: Present, 
     requires { condition_refusal file.now (paper_operator o) (paper_value constant) (present_value value text.now) ≡ 0 }
     ensures { result ≡ holds (paper_operator o) (present_value value text.now) (constant_of file.now (paper_value constant)) }
 {
-    match constant {
-        Operand::Number(k) => match value {
-            Present::Number(v) => number_holds(o, v, k),
-            Present::Text => false,
-        },
-        Operand::Text(quote) => match value {
-            Present::Number(_) => false,
-            Present::Text => by_same(o, is_same(file, quote, text)),
-        },
+    match (constant, value) {
+        (Operand::Number(k), Present::Number(v)) => number_holds(o, v, k),
+        (Operand::Text(quote), Present::Text) => by_same(o, is_same(file, quote, text)),
+        _ => false,
     }
 }
 
@@ -231,12 +197,9 @@ fn own_real(clause: Start) -> bool
     ensures { result ≡ own_real (paper_start clause) }
 {
     match clause {
-        Start::Immediate => true,
-        Start::At(time, day) => match day {
-            None => calendar::is_real_time(time),
-            Some(date) => moment::is_real(date, time),
-        },
-        Start::When(_) => true,
+        Start::At(time, None) => calendar::is_real_time(time),
+        Start::At(time, Some(date)) => moment::is_real(date, time),
+        Start::Immediate | Start::When(_) => true,
     }
 }
 
@@ -252,13 +215,8 @@ fn may_decide(clause: Start, file: &[u8], value: Present, text: &[u8]) -> Result
     ensures { refused_by result ≡ clause_refusal file.now (present_value value text.now) (paper_start clause) }
 {
     match clause {
-        Start::Immediate => Ok(()),
-        Start::At(_, _) => Ok(()),
-        Start::When(c) => {
-            let o = c.operator;
-            let constant = c.operand;
-            may_compare(o, constant, file, value, text)
-        }
+        Start::Immediate | Start::At(_, _) => Ok(()),
+        Start::When(c) => may_compare(c.operator, c.operand, file, value, text),
     }
 }
 
@@ -288,11 +246,7 @@ fn clause_is_due(
     match clause {
         Start::Immediate => true,
         Start::At(at, day) => time_is_due(at, day, date, time, taken_up),
-        Start::When(c) => {
-            let o = c.operator;
-            let constant = c.operand;
-            condition_holds(o, constant, file, value, text)
-        }
+        Start::When(c) => condition_holds(c.operator, c.operand, file, value, text),
     }
 }
 

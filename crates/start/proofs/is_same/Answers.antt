@@ -1,9 +1,7 @@
 -- `start::is_same` meets its contract.
-use Rattle.start.proofs.Steps.{same_so, differs_so}
+use mathlib.Core.Path.{◌∙◌}
+use Rattle.start.proofs.Steps.{by_elements}
 use Rattle.start.proofs.is_same.Goals as goal
 
-pub returns-then-constant-text : goal.returns-then-constant-text
-returns-then-constant-text c = same_so _ _ _ _ c.text_at-constant.ensures c.if-constant-text.true c.has_at.ensures
-
 pub returns : goal.returns
-returns c = differs_so _ _ _ c.text_at-constant.ensures c.if-constant-text.false
+returns c = rw (← c.text_at.ensures) (c.eq.ensures ∙ by_elements _ _)
