@@ -1,5 +1,5 @@
 -- Which bytes are of which kind (document 01, "Bytes and tokens").
-use Rattle.std.specs.Prelude.{ℕ, Bool, cond, not, ◌&&◌, ◌||◌, eqb, leb}
+use Rattle.std.specs.Prelude.{ℕ, Bool, not, ◌&&◌, ◌||◌, eqb, leb}
 pub use Rattle.decimal.specs.Digits.{is_digit}
 
 -- "Space, tab, CR and LF separate."
@@ -31,10 +31,3 @@ is_text_byte b = (leb 32 b && leb b 33) || (leb 35 b && leb b 254)
 -- what a comment runs over
 abbrev pub is_comment_byte : ℕ → Bool
 is_comment_byte b = not (is_line_end b)
-
--- The kinds of which there are runs, by the numbers that code has for them: of a word, of a numeric run, digits, of a string, of a comment
-abbrev pub of_kind : ℕ → ℕ → Bool
-of_kind kind b =
-    cond (eqb kind 0) (is_word_byte b)
-    (cond (eqb kind 1) (is_numeric_byte b)
-    (cond (eqb kind 2) (is_digit b) (cond (eqb kind 3) (is_text_byte b) (is_comment_byte b))))

@@ -1,5 +1,5 @@
 -- Runs of bytes of one kind, and what separates tokens (document 01, "Bytes and tokens").
-use Rattle.std.specs.Prelude.{ℕ, suc, ◌+◌, ◌≤◌, max, ◌≡◌, Bool, true, false, not, ◌&&◌, List, [], ◌∷◌, length, get_or, drop, eqb}
+use Rattle.std.specs.Prelude.{ℕ, suc, ◌+◌, ◌≤◌, ◌<◌, max, ◌≡◌, Bool, true, false, not, ◌&&◌, List, [], ◌∷◌, length, get_or, drop, eqb}
 use Rattle.scan.specs.Kinds.{is_separator, is_line_end}
 
 -- how many bytes at the front pass the test
@@ -37,3 +37,7 @@ pub record Reached (s : List ℕ) (at e r : ℕ) : Type 0 where
   pub is : r ≡ e
   pub from : at ≤ r
   pub to : r ≤ max at (length s)
+
+-- what a code's test says of each byte is what the test p says
+abbrev pub Tests : {F : Type 0} → (F → ℕ → Bool → Type 0) → F → (ℕ → Bool) → Type 0
+Tests post f p = (b : ℕ) (r : Bool) → b < 256 → post f b r → r ≡ p b

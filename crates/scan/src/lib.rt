@@ -1,23 +1,11 @@
 // Scans: the kind of a byte, the end of a run of one kind, and the place of the next token.
 #![tactic(auto)]
 
-ghost use Rattle.std.specs.Prelude.{◌≡◌, false, ◌<◌, ◌≤◌, eqb, length, get_or};
-ghost use Rattle.scan.specs.Kinds.{is_separator, is_digit, is_letter, is_word_byte, is_numeric_byte, is_text_byte, is_comment_byte, of_kind};
-ghost use Rattle.scan.specs.Run.{run_end, blank_end, comment_at, Reached};
+ghost use Rattle.std.specs.Prelude.{◌≡◌, ℕ, Bool, false, ◌<◌, ◌≤◌, eqb, length, get_or};
+ghost use Rattle.scan.specs.Kinds.{is_separator, is_digit, is_letter, is_word_byte, is_numeric_byte, is_text_byte, is_comment_byte};
+ghost use Rattle.scan.specs.Run.{run_end, blank_end, comment_at, Tests, Reached};
 
 use field::byte_at;
-
-// The kinds of which there are runs.
-
-pub const WORD: u8 = 0;
-
-pub const NUMERIC: u8 = 1;
-
-pub const DIGIT: u8 = 2;
-
-pub const TEXT: u8 = 3;
-
-pub const COMMENT: u8 = 4;
 
 // The kinds of byte. In a run the test of each byte is what costs: the kinds that long runs have ask first what most bytes answer.
 
@@ -82,38 +70,54 @@ fn is_comment_byte(b: u8) -> bool
     (b != 13) & (b != 10)
 }
 
-// Whether b is of the kind.
-fn is_of(kind: u8, b: u8) -> bool
-    ensures { result ≡ of_kind kind b }
-{
-    if kind == WORD {
-        return is_word_byte(b);
-    }
-    if kind == NUMERIC {
-        return is_numeric_byte(b);
-    }
-    if kind == DIGIT {
-        return is_digit(b);
-    }
-    if kind == TEXT {
-        return is_text_byte(b);
-    }
-    is_comment_byte(b)
-}
-
-// The end of a run of one kind: one loop for all of them.
-pub fn run_end(s: &[u8], at: usize, kind: u8) -> usize
-    ensures { Reached s.now at (run_end (of_kind kind) s.now at) result }
+// The end of a run of the bytes that a test takes: one loop for all kinds.
+fn run_end<F: Fn(u8) -> bool>(s: &[u8], at: usize, is_of: F) -> usize
+    requires { F.IsAlwaysCallable is_of }
+    ensures { (p : ℕ → Bool) → Tests F.post is_of p → Reached s.now at (run_end p s.now at) result }
 {
     let mut i = at;
     while i < s.len() {
-        if is_of(kind, s[i]) {
-            i += 1;
-        } else {
+        if !is_of(s[i]) {
             return i;
         }
+        i += 1;
     }
     i
+}
+
+// The end of a run of a word's bytes.
+pub fn word_end(s: &[u8], at: usize) -> usize
+    ensures { Reached s.now at (run_end is_word_byte s.now at) result }
+{
+    run_end(s, at, |b| is_word_byte(b))
+}
+
+// The end of a numeric run.
+pub fn numeric_end(s: &[u8], at: usize) -> usize
+    ensures { Reached s.now at (run_end is_numeric_byte s.now at) result }
+{
+    run_end(s, at, |b| is_numeric_byte(b))
+}
+
+// The end of a run of digits.
+pub fn digits_end(s: &[u8], at: usize) -> usize
+    ensures { Reached s.now at (run_end is_digit s.now at) result }
+{
+    run_end(s, at, |b| is_digit(b))
+}
+
+// The end of a run of a string's bytes.
+pub fn text_end(s: &[u8], at: usize) -> usize
+    ensures { Reached s.now at (run_end is_text_byte s.now at) result }
+{
+    run_end(s, at, |b| is_text_byte(b))
+}
+
+// The end of a comment.
+fn comment_end(s: &[u8], at: usize) -> usize
+    ensures { Reached s.now at (run_end is_comment_byte s.now at) result }
+{
+    run_end(s, at, |b| is_comment_byte(b))
 }
 
 // Whether every byte may stand in a string. The loop has one way out, and the test no branch: so the compiler tests many bytes at a time.
@@ -147,7 +151,7 @@ pub fn blank_end(s: &[u8], at: usize) -> usize
         if is_separator(s[i]) {
             i += 1;
         } else if comment_at(s, i) {
-            i = run_end(s, i + 1, COMMENT);
+            i = comment_end(s, i + 1);
         } else {
             return i;
         }

@@ -26,14 +26,14 @@ comment_at-requires c = search blanks
 pub overflow_add-i-then-comment_at : goal.overflow_add-i-then-comment_at
 overflow_add-i-then-comment_at c = search blanks
 
-pub run_end-i-requires : goal.run_end-i-requires
-run_end-i-requires c = search blanks
+pub comment_end-i-requires : goal.comment_end-i-requires
+comment_end-i-requires c = search blanks
 
 pub loop-i-smaller : goal.loop-i-smaller
-loop-i-smaller c = omega (arith, c.run_end-i.ensures.from)
+loop-i-smaller c = omega (arith, c.comment_end-i.ensures.from)
 
 pub loop-i-preserved : goal.loop-i-preserved
-loop-i-preserved c = (search blanks, omega (arith, c.run_end-i.ensures.from), omega (arith, c.run_end-i.ensures.to))
+loop-i-preserved c = (search blanks, omega (arith, c.comment_end-i.ensures.from), omega (arith, c.comment_end-i.ensures.to))
 
 pub returns-else-comment_at : goal.returns-else-comment_at
 returns-else-comment_at c = record { is = search blanks; from = omega arith; to = omega arith }

@@ -1,27 +1,23 @@
 use native.Mathlib.Omega.{arith}
-use Rattle.scan.proofs.Runs.{scan}
+use borrow.Author.Rules.{rules}
+use Rattle.scan.proofs.Runs.{again, stop, past}
 use Rattle.scan.proofs.run_end.Goals as goal
 
-pub loop-i-init : goal.loop-i-init
-loop-i-init c = search scan
-
-pub bounds-s-i : goal.bounds-s-i
-bounds-s-i c = search scan
-
-pub is_of-requires : goal.is_of-requires
-is_of-requires c = search scan
-
-pub overflow_add-i : goal.overflow_add-i
-overflow_add-i c = search scan
-
-pub loop-i-smaller : goal.loop-i-smaller
-loop-i-smaller c = search scan
+pub returns-then-not-is_of : goal.returns-then-not-is_of
+returns-then-not-is_of g c =
+    λ p t.
+    record {
+      is = stop p _ _ (t _ _ (search rules) c.is_of.ensures) c.if-not-is_of.true c.loop-i-test.true (c.loop-i.invariant.0 p t);
+      from = omega arith;
+      to = omega arith;
+    }
 
 pub loop-i-preserved : goal.loop-i-preserved
-loop-i-preserved c = (search scan, omega arith, omega arith)
-
-pub returns-else-is_of : goal.returns-else-is_of
-returns-else-is_of c = record { is = search scan; from = omega arith; to = omega arith }
+loop-i-preserved g c = (
+  λ p t. again p _ _ (t _ _ (search rules) c.is_of.ensures) c.if-not-is_of.false c.loop-i-test.true (c.loop-i.invariant.0 p t),
+  omega arith,
+  omega arith,
+)
 
 pub returns : goal.returns
-returns c = record { is = search scan; from = omega arith; to = omega arith }
+returns g c = λ p t. record { is = past p _ _ c.loop-i-test.false (c.loop-i.invariant.0 p t); from = omega arith; to = omega arith }

@@ -1,0 +1,7 @@
+-- `scan::comment_end` meets its contract.
+use borrow.Author.Rules.{rules}
+use Rattle.scan.specs.Kinds.{is_comment_byte}
+use Rattle.scan.proofs.comment_end.Goals as goal
+
+pub returns : goal.returns
+returns c = c.run_end.ensures is_comment_byte (λ b r h e. search rules)

@@ -1,0 +1,7 @@
+-- `scan::text_end` meets its contract.
+use borrow.Author.Rules.{rules}
+use Rattle.scan.specs.Kinds.{is_text_byte}
+use Rattle.scan.proofs.text_end.Goals as goal
+
+pub returns : goal.returns
+returns c = c.run_end.ensures is_text_byte (λ b r h e. search rules)
