@@ -5,7 +5,8 @@ use Prim.Native.Nat.{ℕ, suc, ◌+◌, ◌≤◌}
 use native.Mathlib.Nat.{add-zero, add-suc, suc-add}
 use native.Mathlib.Omega.{arith}
 use lib.ListN.{length-take, length, take, drop, set, length-append}
-use lib.Seq.{drop_at, sets, length-sets, sets-eq}
+use borrow.Rule.Slice.PartMut.{put_mid}
+use lib.Seq.{drop-drop, drop_at, sets, length-sets, sets-eq}
 use Rattle.field.specs.Part.{part, put, Wrote}
 use Rattle.field.proofs.Parts.{part_is}
 
@@ -25,6 +26,10 @@ length_put d at xs = length-sets d at xs
 pub put_eq : (d : List ℕ) (at : ℕ) (xs : List ℕ) → at + length xs ≤ length d → put d at xs ≡ take at d ++ xs ++ drop (at + length xs) d
 unfolding put
 put_eq d at xs h = sets-eq xs d at h
+
+-- the part of it between the two is what is written over it
+pub copied : (d xs ys : List ℕ) (at k : ℕ) → ys ≡ xs → k ≡ length xs → at + length xs ≤ length d → put_mid at k d ys ≡ put d at xs
+copied d xs ys at k e f h = rw (e, f) (ap (λ (l : List ℕ). take at d ++ (xs ++ l)) (drop-drop (length xs) at d) ∙ sym (append_assoc (take at d) xs (drop (at + length xs) d)) ∙ sym (put_eq d at xs h))
 
 -- two writes, the second where the first ends, are one write of the two lists joined
 pub put_put : (xs ys d : List ℕ) (at : ℕ) → put (put d at xs) (at + length xs) ys ≡ put d at (xs ++ ys)

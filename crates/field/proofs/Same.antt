@@ -2,22 +2,36 @@
 use mathlib.Core.Path.{◌≡◌, refl, sym, ap, ap₂, ◌∙◌}
 use mathlib.Core.Bool.{Bool, true, false, true≢false, ◌&&◌, and-false}
 use mathlib.Core.List.{List, [], ◌∷◌, ◌++◌}
-use Prim.Native.Nat.{ℕ, suc, ◌+◌, ◌-◌, ◌≤◌, ◌<◌}
-use native.Mathlib.Numerals.{add-one}
+use Prim.Native.Nat.{ℕ, suc, ◌+◌, ◌≤◌, ◌<◌}
 use native.Mathlib.Omega.{arith}
 use lib.Dec.{eqb}
-use lib.ListN.{length, get_or, drop}
-use lib.Seq.{drop-cons, drop-length}
-use borrow.Author.Tests.{eqb-true, eq-eqb, ne_eqb}
+use lib.ListN.{length, drop}
+use lib.Pointwise.{pointwise}
+use borrow.Author.Tests.{eqb-true, eqb-false, eq-eqb, ne_eqb}
 use Rattle.laws.proofs.Choose.{and_left, and_right}
 use Rattle.field.specs.Bytes.{same, has_at}
 use Rattle.field.specs.Part.{part}
-use Rattle.field.proofs.Parts.{part_cons, length_part, part_is, is_part}
+use Rattle.field.proofs.Parts.{length_part, part_is, is_part}
 
 pub same_refl : (xs : List ℕ) → same xs xs ≡ true
 unfolding same
 same_refl [] = refl
 same_refl (x ∷ xs) = rw (eq-eqb x x refl, same_refl xs)
+
+eqb_turned : (x y : ℕ) → eqb y x ≡ eqb x y
+eqb_turned x y = go (eqb x y) refl
+  where
+    go : (b : Bool) → eqb x y ≡ b → eqb y x ≡ b
+    go true e = eq-eqb y x (sym (eqb-true x y e))
+    go false e = ne_eqb y x (λ p. eqb-false x y e (sym p))
+
+-- what the library finds of two slices
+pub same_is : (xs ys : List ℕ) → pointwise eqb ys xs ≡ same xs ys
+unfolding same
+same_is [] [] = refl
+same_is [] (y ∷ ys) = refl
+same_is (x ∷ xs) [] = refl
+same_is (x ∷ xs) (y ∷ ys) = ap₂ ◌&&◌ (eqb_turned x y) (same_is xs ys)
 
 pub same_true : (xs ys : List ℕ) → same xs ys ≡ true → xs ≡ ys
 unfolding same
@@ -55,37 +69,10 @@ module _ (s : List ℕ) (at : ℕ) (w : List ℕ) where
   pub has_room : 0 < length w → has_at s at w ≡ true → at + length w ≤ length s
   has_room some t = omega (arith, ap length (has_part t), length_part s at (length w))
 
-  -- ---- the comparison, as a loop makes it
-
   -- too few bytes
   pub has_short : length s < at + length w → 0 < length w → has_at s at w ≡ false
   unfolding has_at
   has_short h some = same_length (part s at (length w)) w (λ e. omega (arith, length_part s at (length w)))
-
-  -- w from j on is the same as the bytes of s from there on
-  unfoldable pub rest_at : ℕ → Bool
-  rest_at j = same (part s (at + j) (length w - j)) (drop j w)
-
-  pub rest_start : rest_at 0 ≡ has_at s at w
-  unfolding rest_at has_at
-  rest_start =
-      let e : at + 0 ≡ at = omega arith in
-      let f : length w - 0 ≡ length w = omega arith in
-      rw (e, f)
-
-  pub rest_turn : (j : ℕ) → j < length w → at + length w ≤ length s
-      → rest_at j ≡ (eqb (get_or s (at + j) 0) (get_or w j 0) && rest_at (j + 1))
-  unfolding rest_at same
-  rest_turn j h room =
-      let e : length w - j ≡ suc (length w - (j + 1)) = omega arith in
-      let f : at + j + 1 ≡ at + (j + 1) = omega arith in
-      rw (e, part_cons s (at + j) (length w - (j + 1)) (omega arith), f, drop-cons w j 0 h, ← add-one j)
-
-  pub rest_end : (j : ℕ) → j ≡ length w → rest_at j ≡ true
-  unfolding rest_at same part
-  rest_end j e =
-      let z : length w - j ≡ 0 = omega arith in
-      rw (z, e, drop-length w)
 
 -- past the end stands the empty word alone
 pub has_past : (s : List ℕ) (at : ℕ) (w : List ℕ) → length s < at → has_at s at w ≡ eqb (length w) 0

@@ -18,19 +18,9 @@ pub fn has_at(s: &[u8], at: usize, word: &[u8]) -> bool
     ensures { result ≡ has_at s.now at word.now }
 {
     if s.len() < at {
-        return word.len() == 0;
+        return word.is_empty();
     }
-    if s.len() - at < word.len() {
-        return false;
-    }
-    let mut j = 0;
-    while j < word.len() {
-        if s[at + j] != word[j] {
-            return false;
-        }
-        j += 1;
-    }
-    true
+    s[at..].starts_with(word)
 }
 
 // Writes all of src from at on, and gives the place after it.
@@ -38,12 +28,8 @@ pub fn put_bytes(out: &mut [u8], at: usize, src: &[u8]) -> usize
     requires { at + length src.now ≤ length out.old }
     ensures { Wrote out.old at src.now out.new result }
 {
-    let mut j = 0;
-    while j < src.len() {
-        out[at + j] = src[j];
-        j += 1;
-    }
-    at + j
+    out[at..at + src.len()].copy_from_slice(src);
+    at + src.len()
 }
 
 // One byte, as a wide number.
@@ -51,7 +37,7 @@ fn wide_at(b: &[u8], at: usize) -> u32
     requires { at + 1 ≤ length b.now }
     ensures { (result ≡ get_or b.now at 0) × (result < 256) }
 {
-    b[at] as u32
+    u32::from(b[at])
 }
 
 pub fn get32(b: &[u8], at: usize) -> u32

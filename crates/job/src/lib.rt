@@ -14,7 +14,7 @@ ghost use Rattle.job.specs.Loop.{paper_step, step_read, step_of, rest_of, BlockR
 use counts::{FILE_BYTES, Reason, Refusal, STATEMENTS};
 use grammar::StartClause;
 use item::{Class, Item, next_item, refusal_reason};
-use scan::{TEXT, run_end};
+use scan::text_end;
 use statement::{Statement, statement_of};
 use token::is_text;
 
@@ -191,7 +191,7 @@ pub fn text_at(file: &[u8], quote: usize) -> &[u8]
 {
     if is_text(file, quote) {
         let start = quote + 1;
-        let end = run_end(file, start, TEXT);
+        let end = text_end(file, start);
         return &file[start..end];
     }
     &file[..0]

@@ -96,7 +96,7 @@ pub fn record_at(bytes: &[u8], at: usize) -> Option<(Record, usize)>
     ensures { result ≡ record_at commands bytes.now at }
 {
     let digits = at + 8;
-    let width = scan::run_end(bytes, digits, scan::DIGIT) - digits;
+    let width = scan::digits_end(bytes, digits) - digits;
     let Some(number) = number_in(bytes, at, width) else {
         return None;
     };
@@ -105,7 +105,7 @@ pub fn record_at(bytes: &[u8], at: usize) -> Option<(Record, usize)>
     let Some((outcome, start)) = outcome_at(bytes, after_number) else {
         return None;
     };
-    let end = scan::run_end(bytes, start, scan::TEXT);
+    let end = scan::text_end(bytes, start);
     rest_at(bytes, number, outcome, start, end)
 }
 

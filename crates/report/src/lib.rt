@@ -11,7 +11,7 @@ ghost use Rattle.report.specs.Answer.{sized, filled, paper_report_read};
 use counts::{COLUMNS, NUMBER_DIGITS, Reason, Refusal, TEXT_BYTES};
 use delimited::{Delimiter, Separator, separator_at};
 use field::byte_at;
-use scan::{DIGIT, TEXT, is_letter, run_end};
+use scan::{digits_end, is_letter, text_end};
 use word::{is_name, word_at};
 
 // The name at i: the place after it.
@@ -32,12 +32,12 @@ fn figures_at(s: &[u8], d: usize) -> Option<usize>
     requires { d ≤ length s.now }
     ensures { result ≡ figures_at s.now d }
 {
-    let whole = run_end(s, d, DIGIT);
+    let whole = digits_end(s, d);
     if whole == d {
         return None;
     }
     if byte_at(s, whole) == b'.' {
-        let end = run_end(s, whole + 1, DIGIT);
+        let end = digits_end(s, whole + 1);
         ((whole + 1 < end) & (end <= d + NUMBER_DIGITS + 1)).then_some(end)
     } else {
         (whole <= d + NUMBER_DIGITS).then_some(whole)
@@ -49,7 +49,7 @@ fn string_at(s: &[u8], i: usize) -> Option<usize>
     requires { (i < length s.now) × (get_or s.now i 0 ≡ 34) }
     ensures { result ≡ string_end s.now i }
 {
-    let end = run_end(s, i + 1, TEXT);
+    let end = text_end(s, i + 1);
     ((end - (i + 1) <= TEXT_BYTES) & (byte_at(s, end) == b'"')).then_some(end + 1)
 }
 

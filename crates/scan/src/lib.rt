@@ -12,13 +12,13 @@ use field::byte_at;
 fn is_separator(b: u8) -> bool
     ensures { result ≡ is_separator b }
 {
-    (b == 32) | (b == 9) | (b == 13) | (b == 10)
+    (b == b' ') | (b == b'\t') | (b == b'\r') | (b == b'\n')
 }
 
 pub fn is_digit(b: u8) -> bool
     ensures { result ≡ is_digit b }
 {
-    (48 <= b) & (b <= 57)
+    (b'0' <= b) & (b <= b'9')
 }
 
 // Whether a digit stands at i.
@@ -31,7 +31,7 @@ pub fn digit_at(s: &[u8], i: usize) -> bool
 pub fn is_letter(b: u8) -> bool
     ensures { result ≡ is_letter b }
 {
-    (65 <= b) & (b <= 90) | (97 <= b) & (b <= 122)
+    (b'A' <= b) & (b <= b'Z') | (b'a' <= b) & (b <= b'z')
 }
 
 fn is_word_byte(b: u8) -> bool
@@ -40,7 +40,7 @@ fn is_word_byte(b: u8) -> bool
     if is_letter(b) {
         return true;
     }
-    is_digit(b) | (b == 95)
+    is_digit(b) | (b == b'_')
 }
 
 fn is_numeric_byte(b: u8) -> bool
@@ -49,25 +49,25 @@ fn is_numeric_byte(b: u8) -> bool
     if is_digit(b) {
         return true;
     }
-    is_letter(b) | (b == 95) | (b == 46) | (b == 58)
+    is_letter(b) | (b == b'_') | (b == b'.') | (b == b':')
 }
 
 fn is_text_byte(b: u8) -> bool
     ensures { result ≡ is_text_byte b }
 {
-    if 34 < b {
+    if b'"' < b {
         return b <= 254;
     }
-    (32 <= b) & (b <= 33)
+    (b' ' <= b) & (b <= b'!')
 }
 
 fn is_comment_byte(b: u8) -> bool
     ensures { result ≡ is_comment_byte b }
 {
-    if 13 < b {
+    if b'\r' < b {
         return true;
     }
-    (b != 13) & (b != 10)
+    (b != b'\r') & (b != b'\n')
 }
 
 // The end of a run of the bytes that a test takes: one loop for all kinds.
@@ -128,7 +128,7 @@ pub fn is_all_text(s: &[u8]) -> bool
     let mut i = 0;
     while i < s.len() {
         let b = s[i];
-        all = all & ((32 <= b) & (b <= 33) | (35 <= b) & (b <= 254));
+        all = all & ((b' ' <= b) & (b <= b'!') | (b'#' <= b) & (b <= 254));
         i += 1;
     }
     all
@@ -139,7 +139,7 @@ fn comment_at(s: &[u8], i: usize) -> bool
     requires { i < length s.now }
     ensures { result ≡ comment_at s.now i }
 {
-    (byte_at(s, i) == 47) & (byte_at(s, i + 1) == 47)
+    (byte_at(s, i) == b'/') & (byte_at(s, i + 1) == b'/')
 }
 
 // The place of the next token, or the end: past separators and comments.

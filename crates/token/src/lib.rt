@@ -9,7 +9,7 @@ ghost use Rattle.token.specs.Token.{word_token, string_at, is_text_at, pair_at, 
 
 use counts::{NUMBER_DIGITS, TEXT_BYTES};
 use field::byte_at;
-use scan::{DIGIT, NUMERIC, TEXT, blank_end, digit_at, is_digit, is_letter, run_end};
+use scan::{blank_end, digit_at, digits_end, is_digit, is_letter, numeric_end, text_end};
 use word::{Word, word_at};
 
 #[derive(Clone, Copy, Debug, PartialEq, Eq, Hash)]
@@ -90,7 +90,7 @@ fn text_token(s: &[u8], i: usize) -> Token
     requires { (i < length s.now) × (length s.now ≤ file_bytes) × (get_or s.now i 0 ≡ 34) }
     ensures { result ≡ string_at s.now i }
 {
-    let end = run_end(s, i + 1, TEXT);
+    let end = text_end(s, i + 1);
     if end - (i + 1) <= TEXT_BYTES {
         if byte_at(s, end) == b'"' {
             return Token::Text {
@@ -121,7 +121,7 @@ pub fn is_text(s: &[u8], i: usize) -> bool
 {
     if i < s.len() {
         if s[i] == b'"' {
-            let end = run_end(s, i + 1, TEXT);
+            let end = text_end(s, i + 1);
             return (end - (i + 1) <= TEXT_BYTES) & (byte_at(s, end) == b'"');
         }
     }
@@ -208,11 +208,11 @@ fn is_number(s: &[u8], d: usize, e: usize) -> bool
     requires { (d ≤ e) × (e ≤ file_bytes) × (length s.now ≤ file_bytes) }
     ensures { result ≡ is_number_at s.now d e }
 {
-    let m = run_end(s, d, DIGIT);
+    let m = digits_end(s, d);
     if m == e {
         return e <= d + NUMBER_DIGITS;
     }
-    let f = run_end(s, m + 1, DIGIT);
+    let f = digits_end(s, m + 1);
     (byte_at(s, m) == b'.') & digit_at(s, m + 1) & (f == e) & (e <= d + NUMBER_DIGITS + 1)
 }
 
@@ -221,7 +221,7 @@ fn shaped_token(s: &[u8], i: usize, d: usize) -> Token
     requires { (i ≤ d) × (d ≤ length s.now) × (length s.now ≤ file_bytes) }
     ensures { result ≡ shaped_at s.now i d }
 {
-    let end = run_end(s, d, NUMERIC);
+    let end = numeric_end(s, d);
     if is_time(s, i, end) {
         return Token::Time { start: i, end };
     }

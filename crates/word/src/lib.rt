@@ -7,7 +7,7 @@ ghost use Rattle.word.specs.Word.{is_name, which_word, is_index, closed_index, g
 
 use counts::{INDEX_DIGITS, WORD_BYTES};
 use field::{byte_at, has_at};
-use scan::{DIGIT, WORD, run_end};
+use scan::{digits_end, word_end};
 
 // Which word it is: a reserved one, a name, or TIME>=. Other is STOP, TIME or NEVER, which no production takes. They stand in the order of
 // the classes, so that a word's class costs nothing.
@@ -86,7 +86,7 @@ fn closed_index(s: &[u8], j: usize) -> Option<usize>
     requires { j ≤ length s.now }
     ensures { result ≡ closed_index s.now j }
 {
-    let end = run_end(s, j, DIGIT);
+    let end = digits_end(s, j);
     if is_index(end - j) & (byte_at(s, end) == b']') {
         return Some(end + 1);
     }
@@ -98,7 +98,7 @@ fn group_at(s: &[u8], j: usize) -> Option<usize>
     requires { j < length s.now }
     ensures { result ≡ group_read s.now j }
 {
-    let end = run_end(s, j + 1, DIGIT);
+    let end = digits_end(s, j + 1);
     if is_index(end - (j + 1)) & (byte_at(s, end) == b',') {
         return closed_index(s, end + 1);
     }
@@ -125,7 +125,7 @@ pub fn word_at(s: &[u8], i: usize) -> Option<(Word, usize)>
     if has_at(s, i, b"TIME>=") {
         return Some((Word::TimeGe, i + 6));
     }
-    let end = run_end(s, i, WORD);
+    let end = word_end(s, i);
     if i + WORD_BYTES < end {
         return None;
     }

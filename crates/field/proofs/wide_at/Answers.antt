@@ -1,10 +1,6 @@
 -- `field::wide_at` meets its contract.
-use mathlib.Core.Path.{refl}
-use native.Mathlib.Omega.{arith}
+use borrow.Author.Rules.{rules}
 use Rattle.field.proofs.wide_at.Goals as goal
 
-pub overflow_cast-result : goal.overflow_cast-result
-overflow_cast-result c = omega (arith, c.shared_slice_known-1.given c.args.at)
-
 pub returns : goal.returns
-returns c = (refl, (c.shared_slice_known-1.given c.args.at).fits)
+returns c = (c.from.ensures, search rules)

@@ -9,4 +9,4 @@ returns-then-m-e c = search choose depth 9
 
 pub returns : goal.returns
 unfolding is_number_at
-returns c = rw (← c.run_end-m.ensures.is) (search choose depth 9)
+returns c = rw (← c.digits_end-m.ensures.is) (search choose depth 9)

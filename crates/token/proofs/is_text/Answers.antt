@@ -7,7 +7,7 @@ use Rattle.token.proofs.is_text.Goals as goal
 
 pub returns-then-s-i-eq34 : goal.returns-then-s-i-eq34
 unfolding is_text_at
-returns-then-s-i-eq34 c = rw (← c.run_end-end.ensures.is, eq-eqb _ _ c.if-s-i-eq34.true) (search choose depth 9)
+returns-then-s-i-eq34 c = rw (← c.text_end-end.ensures.is, eq-eqb _ _ c.if-s-i-eq34.true) (search choose depth 9)
 
 pub returns-else-s-i-eq34 : goal.returns-else-s-i-eq34
 unfolding is_text_at

@@ -9,8 +9,8 @@ pub returns-then-is_index-byte_at : goal.returns-then-is_index-byte_at
 unfolding closed_index
 returns-then-is_index-byte_at c =
     let closes : (c.is_index.result && eqb c.byte_at.result 93) ≡ true = c.if-is_index-byte_at.true in
-    rw (← c.run_end-end.ensures.is, ← c.is_index.ensures, ← c.byte_at.ensures, closes)
+    rw (← c.digits_end-end.ensures.is, ← c.is_index.ensures, ← c.byte_at.ensures, closes)
 
 pub returns : goal.returns
 unfolding closed_index
-returns c = rw (← c.run_end-end.ensures.is, ← c.is_index.ensures, ← c.byte_at.ensures, c.if-is_index-byte_at.false)
+returns c = rw (← c.digits_end-end.ensures.is, ← c.is_index.ensures, ← c.byte_at.ensures, c.if-is_index-byte_at.false)

@@ -14,9 +14,9 @@ pub returns-then-is_index-byte_at : goal.returns-then-is_index-byte_at
 unfolding group_read
 returns-then-is_index-byte_at c =
     let parts : (c.is_index.result && eqb c.byte_at.result 44) ≡ true = c.if-is_index-byte_at.true in
-    rw (← c.run_end-end.ensures.is, ← c.is_index.ensures, ← c.byte_at.ensures, parts) c.closed_index.ensures
+    rw (← c.digits_end-end.ensures.is, ← c.is_index.ensures, ← c.byte_at.ensures, parts) c.closed_index.ensures
 
 pub returns : goal.returns
 unfolding group_read
 returns c =
-    rw (← c.run_end-end.ensures.is, ← c.is_index.ensures, ← c.byte_at.ensures, c.if-is_index-byte_at.false) c.closed_index-2.ensures
+    rw (← c.digits_end-end.ensures.is, ← c.is_index.ensures, ← c.byte_at.ensures, c.if-is_index-byte_at.false) c.closed_index-2.ensures

@@ -13,13 +13,13 @@ returns-then-has_at c = search choose depth 9
 
 pub returns-then-i-end : goal.returns-then-i-end
 unfolding word_read
-returns-then-i-end c = rw (sym c.has_at.ensures ∙ c.if-has_at.false, ← c.run_end-end.ensures.is, lt-ltb (c.args.i + word_bytes) _ c.if-i-end.true)
+returns-then-i-end c = rw (sym c.has_at.ensures ∙ c.if-has_at.false, ← c.word_end-end.ensures.is, lt-ltb (c.args.i + word_bytes) _ c.if-i-end.true)
 
 pub returns : goal.returns
 unfolding word_read
 returns c = rw (
   sym c.has_at.ensures ∙ c.if-has_at.false,
-  ← c.run_end-end.ensures.is,
+  ← c.word_end-end.ensures.is,
   le-ltb _ _ c.if-i-end.false,
   c.which_word.ensures,
 )
