@@ -1,14 +1,17 @@
 -- The laws of a number's loops: what one turn does.
 use Prim.Native.Nat.{ℕ, suc, ◌+◌, ◌-◌, ◌*◌, ◌^◌, ◌≤◌, ◌<◌}
-use mathlib.Core.Path.{◌≡◌, sym, ap, ◌∙◌}
-use mathlib.Core.Bool.{true, false}
-use mathlib.Core.List.{List, ◌∷◌}
+use mathlib.Core.Path.{◌≡◌, refl, sym, ap, ◌∙◌}
+use mathlib.Core.Bool.{Bool, true, false, cond}
+use mathlib.Core.List.{List, [], ◌∷◌}
 use native.Mathlib.Nat.{pow-suc, pow-le-pow_right, pow-succ', mul_assoc, add-mul, add_assoc, mul-one}
 use native.Mathlib.Numerals.{add-one}
 use native.Mathlib.Omega.{arith}
-use borrow.Author.Tests.{eq-eqb, ne_eqb}
-use lib.Dec.{eqb}
-use lib.ListN.{length, get_or, take, drop, length-drop, drop_of_length-le}
+use lib.Dec.{eqb, ltb}
+use Rattle.std.proofs.lemmas.Bool.Decides.{nat_tests}
+use Rattle.std.specs.List.{position_or_len}
+use Rattle.std.specs.declared.option.Option.{Option}
+use Rattle.std.specs.declared.option.Option.TheVariants.{Some, None}
+use lib.ListN.{length, get_or, take, drop, drop_of_length-le}
 use lib.Seq.{drop-cons}
 use Rattle.field.specs.Part.{part}
 use Rattle.field.proofs.Parts.{part_cons}
@@ -50,18 +53,39 @@ module _ (s : List ℕ) (i : ℕ) where
     unfolding read_on digits_of value
     all_read l = sym (omega (arith, mul-one m)) ∙ (rw (drop_of_length-le s l) at inv)
 
-  module _ {e : ℕ} (inv : scale_of (drop i s) ≡ e) where
-    pub the_point : i < length s → get_or s i 0 ≡ 46 → length s - (i + 1) ≡ e
-    unfolding scale_of
-    the_point l p = sym (length-drop (i + 1) s) ∙ (rw (turn l, scale_of, eq-eqb _ _ p) at inv)
+-- the place of the point
+abbrev point_at : List ℕ → ℕ
+point_at xs = position_or_len (λ x. eqb x 46) xs
 
-    pub no_point : i < length s → (get_or s i 0 ≡ 46 → ⊥) → scale_of (drop (i + 1) s) ≡ e
-    unfolding scale_of
-    no_point l p = rw (turn l, scale_of, ne_eqb _ _ p) at inv
+first : (n : ℕ) → n ≡ cond (ltb 0 (suc n)) (suc n - (0 + 1)) 0
+first n = grind (arith, nat_tests)
 
-    pub none_found : length s ≤ i → 0 ≡ e
-    unfolding scale_of
-    none_found l = rw (drop_of_length-le s l) at inv
+later : (k n : ℕ) → cond (ltb k n) (n - (k + 1)) 0 ≡ cond (ltb (1 + k) (suc n)) (suc n - (1 + k + 1)) 0
+later k n = grind (arith, nat_tests)
+
+after_point : (xs : List ℕ) → scale_of xs ≡ cond (ltb (point_at xs) (length xs)) (length xs - (point_at xs + 1)) 0
+unfolding scale_of
+after_point [] = refl
+after_point (x ∷ xs) = go (eqb x 46) refl (after_point xs)
+  where
+    go : (t : Bool) → eqb x 46 ≡ t → scale_of xs ≡ cond (ltb (point_at xs) (length xs)) (length xs - (point_at xs + 1)) 0
+        → scale_of (x ∷ xs) ≡ cond (ltb (point_at (x ∷ xs)) (length (x ∷ xs))) (length (x ∷ xs) - (point_at (x ∷ xs) + 1)) 0
+    go true e h = rw (scale_of, e) (first (length xs))
+    go false e h = rw (scale_of, e) (h ∙ later (point_at xs) (length xs))
+
+pub point_found : (xs : List ℕ) (i : ℕ) → Some i ≡ cond (ltb (point_at xs) (length xs)) (Some (point_at xs)) None → length xs - (i + 1) ≡ scale_of xs
+point_found xs i h = rw (after_point xs) (go (ltb (point_at xs) (length xs)) h)
+  where
+    go : (t : Bool) → Some i ≡ cond t (Some (point_at xs)) None → length xs - (i + 1) ≡ cond t (length xs - (point_at xs + 1)) 0
+    go true e = let d : i ≡ point_at xs = cc in rw d
+    go false e = cc
+
+pub no_point : (xs : List ℕ) → ◌≡◌ {A = Option ℕ} None (cond (ltb (point_at xs) (length xs)) (Some (point_at xs)) None) → 0 ≡ scale_of xs
+no_point xs h = rw (after_point xs) (go (ltb (point_at xs) (length xs)) h)
+  where
+    go : (t : Bool) → ◌≡◌ {A = Option ℕ} None (cond t (Some (point_at xs)) None) → 0 ≡ cond t (length xs - (point_at xs + 1)) 0
+    go true e = cc
+    go false e = refl
 
 -- where the loop begins
 pub starts : (s : List ℕ) → read_on 0 s ≡ value (digits_of s)

@@ -20,7 +20,7 @@ fn magnitude(bytes: &[u8]) -> u64
 {
     let mut m: u64 = 0;
     for b in bytes {
-        if (b'0' <= *b) & (*b <= b'9') {
+        if b.is_ascii_digit() {
             m = m * 10 + u64::from(*b - b'0');
         }
     }
@@ -32,12 +32,10 @@ fn scale(bytes: &[u8]) -> u32
     requires { length bytes.now ≤ 18 }
     ensures { result ≡ scale_of bytes.now }
 {
-    for (i, b) in bytes.iter().enumerate() {
-        if *b == b'.' {
-            return (bytes.len() - (i + 1)) as u32;
-        }
+    match bytes.iter().position(|b| *b == b'.') {
+        Some(i) => (bytes.len() - (i + 1)) as u32,
+        None => 0,
     }
-    0
 }
 
 // The magnitude m with its sign.
@@ -46,7 +44,7 @@ fn signed(minus: bool, m: u64) -> i64
     ensures { result ≡ signed_of minus m }
 {
     let v = m as i64;
-    if minus { 0 - v } else { v }
+    if minus { -v } else { v }
 }
 
 // The number whose width bytes stand from at on: 16 digits, a sign and a point are 18.
