@@ -7,8 +7,8 @@ use lib.Dec.{eqb}
 use lib.ListN.{length, replicate}
 use borrow.Author.Tests.{eqb-true, eq-eqb, ne_eqb}
 use Rattle.counts.specs.Limits.{sessions}
-use Rattle.counts.specs.Refusals.{out_of_range, unsound, refusal}
-use Rattle.counts.specs.Result.{Result, refused, done}
+use Rattle.counts.specs.Refusals.{out_of_range, unsound}
+use Rattle.counts.specs.Result.{refused, done}
 use Rattle.sessions.proofs.Laws.{in_range_lem}
 use Rattle.sessions.specs.Table.{within}
 use Rattle.table_layout.specs.Layout.{table_bytes, put_table, fresh_table}

@@ -5,7 +5,7 @@
 use record::Outcome;
 
 // What a command's answer carries.
-#[derive(Clone, Copy)]
+#[derive(Clone, Copy, Debug, PartialEq, Eq, Hash)]
 pub struct Answer {
     pub outcome: Outcome,
     pub date: u32,

@@ -16,7 +16,7 @@ use sessions::Answer;
 use table_layout::{Table, number_at, put_number};
 
 // The head of a session. `taken` is 0 where the number is open, and then the others say nothing.
-#[derive(Clone, Copy)]
+#[derive(Clone, Copy, Debug, PartialEq, Eq, Hash)]
 pub struct Head {
     pub taken: u32,
     pub program: u32,
@@ -153,31 +153,24 @@ fn put_answered(b: &mut [u8], s: SessionNumber, answered: u32)
     put_number(b, at + 3, answered)
 }
 
+// How an outcome stands as two numbers is said by the layout alone, so it is no conversion of the type itself.
 fn outcome_of(kind: u32, code: u32) -> Outcome
     ensures { result ≡ outcome_of kind code }
 {
-    if kind == 0 {
-        return Outcome::Processed;
+    match kind.checked_sub(1) {
+        None => Outcome::Processed,
+        Some(class) => Outcome::Error(class, code),
     }
-    Outcome::Error(kind - 1, code)
 }
 
-fn kind_of(o: Outcome) -> u32
+// Its kind and its code.
+fn numbers_of(o: Outcome) -> (u32, u32)
     requires { kind_of o ≤ 4294967295 }
-    ensures { result ≡ kind_of o }
+    ensures { (result.0 ≡ kind_of o) × (result.1 ≡ code_of o) }
 {
     match o {
-        Outcome::Processed => 0,
-        Outcome::Error(class, _) => class + 1,
-    }
-}
-
-fn code_of(o: Outcome) -> u32
-    ensures { result ≡ code_of o }
-{
-    match o {
-        Outcome::Processed => 0,
-        Outcome::Error(_, code) => code,
+        Outcome::Processed => (0, 0),
+        Outcome::Error(class, code) => (class + 1, code),
     }
 }
 
@@ -201,15 +194,15 @@ fn put_entry(b: &mut [u8], s: SessionNumber, c: CommandNumber, a: Answer)
     ensures { b.new ≡ put_entry b.old s.0 c.0 a }
 {
     let at = entry_at(s, c);
-    let o = a.outcome;
-    put_number(b, at, kind_of(o));
-    put_number(b, at + 1, code_of(o));
+    let (kind, code) = numbers_of(a.outcome);
+    put_number(b, at, kind);
+    put_number(b, at + 1, code);
     put_number(b, at + 2, a.date);
     put_number(b, at + 3, a.time);
 }
 
 // A slot taken out to store an answer in: the head, and the answer that is stored.
-#[derive(Clone, Copy)]
+#[derive(Clone, Copy, Debug, PartialEq, Eq, Hash)]
 pub struct Slot {
     pub head: Head,
     pub entry: Answer,
@@ -220,15 +213,10 @@ fn with_answer(slot: Slot, a: Answer) -> Slot
     requires { slot.head.answered < commands }
     ensures { result ≡ with_entry slot a }
 {
-    let h = slot.head;
-    let t = h.ticket;
     Slot {
         head: Head {
-            taken: h.taken,
-            program: h.program,
-            count: h.count,
-            answered: h.answered + 1,
-            ticket: t,
+            answered: slot.head.answered + 1,
+            ..slot.head
         },
         entry: a,
     }

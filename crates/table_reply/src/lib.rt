@@ -22,13 +22,11 @@ pub fn reply_length(b: &[u8], s: SessionNumber, n: u32) -> usize
     requires { (length b.now ≡ table_bytes) × (s.0 < sessions) × (n ≤ commands) }
     ensures { result ≡ length (reply_of b.now s.0 n) }
 {
-    let mut i: u32 = 0;
     let mut total: usize = 0;
-    while i < n {
+    for i in 0..n {
         let command = CommandNumber(i + 1);
         let outcome = get_entry(b, s, command).outcome;
         total += record::record_length(command, outcome, 0);
-        i += 1;
     }
     total
 }
@@ -47,12 +45,10 @@ pub fn write_reply(b: &[u8], s: SessionNumber, n: u32, out: &mut [u8]) -> usize
     requires { (length b.now ≡ table_bytes) × (s.0 < sessions) × (n ≤ commands) × (all n (λ i. in_range_and_real (entry_of b.now s.0 (i + 1))) ≡ true) × (length (reply_of b.now s.0 n) ≤ length out.old) }
     ensures { Wrote out.old 0 (reply_of b.now s.0 n) out.new result }
 {
-    let mut i: u32 = 0;
     let mut at: usize = 0;
-    while i < n {
+    for i in 0..n {
         let command = CommandNumber(i + 1);
         at = put_answer(out, at, command, get_entry(b, s, command));
-        i += 1;
     }
     at
 }

@@ -1,4 +1,4 @@
-use mathlib.Core.Path.{refl, ap, sym}
+use mathlib.Core.Path.{refl, sym}
 use native.Mathlib.Omega.{arith}
 use Rattle.counts.proofs.Results.{number_not_0, refused_plainly}
 use Rattle.table_search.proofs.Sounds.{sound_size, waits, hand_waits}

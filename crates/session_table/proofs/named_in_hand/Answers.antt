@@ -2,7 +2,7 @@ use mathlib.Core.Path.{refl, ◌∙◌, ap, sym}
 use Rattle.slot.specs.Fields.{head_of}
 use Rattle.table_layout.proofs.Hands.{read_none, read_some}
 use Rattle.table_layout.specs.Layout.{table_of}
-use Rattle.table_search.proofs.Sounds.{sound_size, waits, waiting_head}
+use Rattle.table_search.proofs.Sounds.{sound_size, waiting_head}
 use Rattle.session_table.proofs.Answering.{names_none, in_hand, names_is, is_named}
 use Rattle.session_table.proofs.named_in_hand.Goals as goal
 
