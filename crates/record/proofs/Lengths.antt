@@ -1,6 +1,6 @@
 -- "Length: PROCESSED 42, ERROR 50, plus the digits of n and the bytes of text."
 use Prim.Native.Nat.{ℕ, ◌+◌, ◌≤◌, ◌<◌}
-use mathlib.Core.Path.{◌≡◌, refl}
+use mathlib.Core.Path.{◌≡◌, refl, ap, ◌∙◌}
 use native.Mathlib.Omega.{arith}
 use lib.ListN.{length, length-append}
 use Rattle.decimal.specs.Digits.{plain_width, plain}
@@ -26,6 +26,10 @@ error_room class code at len h = omega (arith, length_outcome (Error class code)
 -- a number of 32 bits has at most ten digits
 pub ten_digits : (n w : ℕ) → n < 4294967296 → w ≡ plain_width n → w ≤ 10
 ten_digits n w h e = omega (arith, plain_le n 10 (omega arith) (omega arith))
+
+-- a number widened has as many
+pub width_of : {n m w : ℕ} → w ≡ plain_width m → m ≡ n → w ≡ plain_width n
+width_of p q = p ∙ ap plain_width q
 
 pub length_plain : (n : ℕ) → length (plain n) ≡ plain_width n
 unfolding plain

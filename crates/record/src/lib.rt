@@ -50,7 +50,7 @@ pub fn record_length(number: CommandNumber, outcome: Outcome, size: usize) -> us
     ensures { result ≡ fixed_length outcome + plain_width number.0 + size }
 {
     let n = number.0;
-    fixed_length(outcome) + decimal::plain_width(n as u64) + size
+    fixed_length(outcome) + decimal::plain_width(u64::from(n)) + size
 }
 
 // Whether a record may be written, and why not.
@@ -111,7 +111,13 @@ pub fn put_record(
     ensures { Wrote out.old at (record_bytes (content number.0 outcome text.now date time)) out.new result }
 {
     let n = number.0;
-    let after_number = labelled::put_after(out, at, b"COMMAND ", decimal::plain_width(n as u64), n);
+    let after_number = labelled::put_after(
+        out,
+        at,
+        b"COMMAND ",
+        decimal::plain_width(u64::from(n)),
+        n,
+    );
     let start = put_outcome(out, after_number, outcome);
     let end = field::put_bytes(out, start, text);
     let after_moment = moment::put_moment(out, end, b"\" ", date, time);
