@@ -1,37 +1,23 @@
-// Job files.
-ghost use Rattle.job.specs.Job.{paper_job};
+// Statements of a job file.
 ghost use Rattle.job.specs.Statement.{paper_statement_at};
-ghost use Rattle.c_answers.specs.Returned.{GivesCount, GivesStatement};
+ghost use Rattle.c_answers.specs.Returned.{GivesStatement};
 
-use crate::refusal;
-use c_numbers::statements::statement_numbers;
-use job::{JobAnswer, StatementAnswer};
+use crate::give_two;
+use c_numbers::statements::StatementNumbers;
+use counts::Refusal;
+use job::StatementAt;
 
-pub fn give_job(a: JobAnswer, statements: &mut usize) -> u64
-    ensures { GivesCount (paper_job a) result statements.old statements.new }
+pub fn give_statement(
+    answer: Result<StatementAt, Refusal>,
+    numbers: &mut [u64; 20],
+    mantissa: &mut i64,
+) -> u64
+    ensures { GivesStatement (paper_statement_at answer)
+        result numbers.old numbers.new mantissa.old mantissa.new }
 {
-    match a {
-        JobAnswer::Taken(n) => {
-            *statements = n;
-            0
-        }
-        JobAnswer::Refused(f) => refusal(f),
-    }
-}
-
-pub fn give_statement(a: StatementAnswer, numbers: &mut [u64; 20], mantissa: &mut i64) -> u64
-    ensures { GivesStatement (paper_statement_at a) result numbers.old numbers.new mantissa.old mantissa.new }
-{
-    match a {
-        StatementAnswer::Read(x) => {
-            let s = x.statement;
-            let all = statement_numbers(s, x.offset, x.next);
-            let n = all.numbers;
-            let m = all.mantissa;
-            *numbers = n;
-            *mantissa = m;
-            0
-        }
-        StatementAnswer::Refused(f) => refusal(f),
-    }
+    let fields = answer.map(|x| {
+        let StatementNumbers { numbers, mantissa } = x.into();
+        (numbers, mantissa)
+    });
+    give_two(fields, numbers, mantissa)
 }

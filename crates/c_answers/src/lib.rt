@@ -10,8 +10,8 @@ pub mod starts;
 pub mod tables;
 
 ghost use Rattle.std.specs.Prelude.{◌≡◌, ℕ};
-ghost use Rattle.counts.specs.Result.{refused};
-ghost use Rattle.c_answers.specs.Returned.{returned};
+ghost use Rattle.counts.specs.Result.{refused_as, paper};
+ghost use Rattle.c_answers.specs.Returned.{returned, left_in, GivesCount};
 
 use counts::Refusal;
 
@@ -19,8 +19,80 @@ use counts::Refusal;
 const PLACE_MOST: u64 = 72057594037927935;
 
 // What is returned for a refusal.
-fn refusal(f: Refusal) -> u64
-    ensures { result ≡ returned {A = ℕ} (refused f.number f.place) }
+fn returned(refusal: Refusal) -> u64
+    ensures { result ≡ returned {A = ℕ} (refused_as refusal) }
 {
-    (f.number & 255) as u64 + 256 * (f.place as u64 & PLACE_MOST)
+    refusal.reason.number() as u64 + 256 * (refusal.place as u64 & PLACE_MOST)
+}
+
+// An answer that is all in what is returned.
+pub fn give_done(answer: Result<(), Refusal>) -> u64
+    ensures { result ≡ returned (paper (λ x. x) answer) }
+{
+    match answer {
+        Ok(()) => 0,
+        Err(refusal) => returned(refusal),
+    }
+}
+
+// An answer of one value, and of two and of three: C lends a place for each.
+pub fn give<T: Drop>(answer: Result<T, Refusal>, place: &mut T) -> u64
+    ensures { (result ≡ returned (paper (λ x. x) answer))
+        × (place.new ≡ left_in place.old (λ x. x) (paper (λ x. x) answer)) }
+{
+    match answer {
+        Ok(x) => {
+            *place = x;
+            0
+        }
+        Err(refusal) => returned(refusal),
+    }
+}
+
+pub fn give_two<T: Drop, U: Drop>(
+    answer: Result<(T, U), Refusal>,
+    first: &mut T,
+    second: &mut U,
+) -> u64
+    ensures { (result ≡ returned (paper (λ x. x) answer))
+        × (first.new ≡ left_in first.old (λ x. x.0) (paper (λ x. x) answer))
+        × (second.new ≡ left_in second.old (λ x. x.1) (paper (λ x. x) answer)) }
+{
+    match answer {
+        Ok((x, y)) => {
+            *first = x;
+            *second = y;
+            0
+        }
+        Err(refusal) => returned(refusal),
+    }
+}
+
+pub fn give_three<T: Drop, U: Drop, V: Drop>(
+    answer: Result<(T, U, V), Refusal>,
+    first: &mut T,
+    second: &mut U,
+    third: &mut V,
+) -> u64
+    ensures { (result ≡ returned (paper (λ x. x) answer))
+        × (first.new ≡ left_in first.old (λ x. x.0) (paper (λ x. x) answer))
+        × (second.new ≡ left_in second.old (λ x. x.1) (paper (λ x. x) answer))
+        × (third.new ≡ left_in third.old (λ x. x.2) (paper (λ x. x) answer)) }
+{
+    match answer {
+        Ok((x, y, z)) => {
+            *first = x;
+            *second = y;
+            *third = z;
+            0
+        }
+        Err(refusal) => returned(refusal),
+    }
+}
+
+// A count of bytes or statements.
+pub fn give_count(answer: Result<usize, Refusal>, count: &mut usize) -> u64
+    ensures { GivesCount (paper (λ n. n) answer) result count.old count.new }
+{
+    give(answer, count)
 }

@@ -2,21 +2,11 @@
 ghost use Rattle.start.specs.Decision.{paper_decision};
 ghost use Rattle.c_answers.specs.Returned.{GivesDue};
 
-use crate::refusal;
-use start::Decision;
+use crate::give;
+use counts::Refusal;
 
-pub fn give_decision(a: Decision, due: &mut u32) -> u64
-    ensures { GivesDue (paper_decision a) result due.old due.new }
+pub fn give_decision(answer: Result<bool, Refusal>, due: &mut u32) -> u64
+    ensures { GivesDue (paper_decision answer) result due.old due.new }
 {
-    match a {
-        Decision::Due => {
-            *due = 1;
-            0
-        }
-        Decision::NotDue => {
-            *due = 0;
-            0
-        }
-        Decision::Refused(f) => refusal(f),
-    }
+    give(answer.map(u32::from), due)
 }

@@ -1,11 +1,11 @@
 -- A start clause and a parameter's present value, from the numbers that the header gives them. What is none of its kinds gets a number that 01 does not permit.
 use Rattle.std.specs.Prelude.{ℕ, cond, ◌&&◌, eqb, leb, ℤ, pos}
+use Rattle.std.specs.declared.option.Option.{Option}
+use Rattle.std.specs.declared.option.Option.TheVariants.{Some, None}
 use Rattle.counts.specs.Limits.{number_digits}
 use Rattle.number.specs.declared.Number.{Number as NumberRead}
 use Rattle.token.specs.declared.Operator.{Operator}
 use Rattle.token.specs.declared.Operator.TheVariants.{Equal, NotEqual, Above, Below, AtLeast, AtMost}
-use Rattle.statement.specs.declared.Day.{Day}
-use Rattle.statement.specs.declared.Day.TheVariants.{Any, On}
 use Rattle.statement.specs.declared.Operand.{Operand}
 use Rattle.statement.specs.declared.Operand.TheVariants.{Number, Text}
 use Rattle.statement.specs.declared.Start.{Start}
@@ -34,8 +34,8 @@ operand_given kind quote scale mantissa =
     cond (eqb kind 1) (Number (number_given scale mantissa)) (cond (eqb kind 2) (Text quote) (Number unpermitted))
 
 -- "with an optional date": 0 is no real date
-abbrev pub day_given : ℕ → Day
-day_given date = cond (eqb date 0) Any (On date)
+abbrev pub day_given : ℕ → Option ℕ
+day_given date = cond (eqb date 0) None (Some date)
 
 abbrev pub condition_of : Operator → Operand → Start
 condition_of o x = When (record { name = no_part; operator = o; operand = x })

@@ -1,13 +1,13 @@
 -- The fields of a statement as numbers, in the order that the header gives. A string is the place of its opening quote, a name has a place
 -- and a length, and a field that is not there is 0.
 use Rattle.std.specs.Prelude.{ℕ, [], ◌∷◌, pos}
+use Rattle.std.specs.declared.option.Option.{Option}
+use Rattle.std.specs.declared.option.Option.TheVariants.{Some, None}
 use Rattle.token.specs.declared.Operator.{Operator}
 use Rattle.token.specs.declared.Operator.TheVariants.{Equal, NotEqual, Above, Below, AtLeast, AtMost}
 use Rattle.statement.specs.declared.Part.{Part}
 use Rattle.statement.specs.declared.Source.{Source}
 use Rattle.statement.specs.declared.Source.TheVariants.{Active, File, Name}
-use Rattle.statement.specs.declared.Day.{Day}
-use Rattle.statement.specs.declared.Day.TheVariants.{Any, On}
 use Rattle.statement.specs.declared.Operand.{Operand}
 use Rattle.statement.specs.declared.Operand.TheVariants.{Number, Text}
 use Rattle.statement.specs.declared.Condition.{Condition}
@@ -43,9 +43,9 @@ operand_fields (Number n) = record { kind = 1; quote = 0; scale = n.scale; manti
 operand_fields (Text quote) = record { kind = 2; quote = quote; scale = 0; mantissa = pos 0 }
 
 -- "with an optional date": 0 is no real date
-abbrev pub day_number : Day → ℕ
-day_number Any = 0
-day_number (On date) = date
+abbrev pub day_number : Option ℕ → ℕ
+day_number None = 0
+day_number (Some date) = date
 
 -- "START name, operator, then number or string"
 abbrev pub condition_fields : Condition → StartFields

@@ -8,7 +8,8 @@ pub fn clause_given(optional: bool) -> StartClause
     ensures { result ≡ clause_given optional }
 {
     if optional {
-        return StartClause::Optional;
+        StartClause::Optional
+    } else {
+        StartClause::Required
     }
-    StartClause::Required
 }

@@ -7,7 +7,8 @@ ghost use Rattle.job.specs.Statement.{read_statement, text_at};
 ghost use Rattle.c_numbers.specs.Clauses.{clause_given};
 ghost use Rattle.c_answers.specs.Returned.{GivesCount, GivesStatement};
 
-use c_answers::jobs::{give_job, give_statement};
+use c_answers::give_count;
+use c_answers::jobs::give_statement;
 use c_numbers::clauses::clause_given;
 
 pub fn rb_read_job(
@@ -20,7 +21,7 @@ pub fn rb_read_job(
         × (offsets.new ≡ filled (read_job (clause_given clause_optional) file.now (length offsets.old)) offsets.old) }
 {
     let clause = clause_given(clause_optional);
-    give_job(job::read_job(file, clause, offsets), statements)
+    give_count(job::read_job(file, clause, offsets), statements)
 }
 
 pub fn rb_read_statement_numbers(
@@ -47,6 +48,5 @@ pub fn rb_is_text_at(file: &[u8], quote: usize) -> bool
 pub fn rb_text_length(file: &[u8], quote: usize) -> usize
     ensures { result ≡ length (text_at file.now quote) }
 {
-    let text = job::text_at(file, quote);
-    text.len()
+    job::text_at(file, quote).len()
 }

@@ -7,7 +7,8 @@ ghost use Rattle.record.specs.Writing.{written, written_bytes};
 ghost use Rattle.c_numbers.specs.Records.{outcome_given, record_numbers};
 ghost use Rattle.c_answers.specs.Returned.{GivesCount, GivesNumbers};
 
-use c_answers::records::{give_record, give_written};
+use c_answers::give_count;
+use c_answers::records::give_record;
 use c_numbers::records::outcome_given;
 use counts::CommandNumber;
 
@@ -27,7 +28,7 @@ pub fn rb_write_record(
         × (out.new ≡ written_bytes commands (content number (outcome_given outcome class code) text.now date time) out.old) }
 {
     let o = outcome_given(outcome, class, code);
-    give_written(
+    give_count(
         record::write_record(CommandNumber(number), o, date, time, text, out),
         used,
     )

@@ -6,7 +6,8 @@ ghost use Rattle.report.specs.Reading.{read_report};
 ghost use Rattle.report_write.specs.Writing as writing;
 ghost use Rattle.c_answers.specs.Returned.{GivesCount, GivesReport};
 
-use c_answers::reports::{give_report, give_written};
+use c_answers::give_count;
+use c_answers::reports::give_report;
 
 pub fn rb_read_report_numbers(
     file: &[u8],
@@ -34,7 +35,7 @@ pub fn rb_write_report_numbers(
         result used.old used.new
         × (out.new ≡ writing.filled (writing.written source.now cells.now columns delimiter (length out.old)) out.old) }
 {
-    give_written(
+    give_count(
         report_write::write_report(source, cells, columns, delimiter, out),
         used,
     )

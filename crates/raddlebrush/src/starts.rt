@@ -5,7 +5,9 @@ ghost use Rattle.c_numbers.specs.Starts.{operand_given, start_given, present_giv
 ghost use Rattle.c_answers.specs.Returned.{GivesDue};
 
 use c_answers::starts::give_decision;
-use c_numbers::starts::{operand_given, present_given, start_given};
+use c_numbers::starts::present_given;
+use c_numbers::statements::StartFields;
+use statement::Start;
 
 pub fn rb_is_due_numbers(
     file: &[u8],
@@ -31,8 +33,17 @@ pub fn rb_is_due_numbers(
         (paper_start (start_given start_kind start_time start_date operator_kind (operand_given operand_kind operand_quote scale mantissa))))
         result due.old due.new }
 {
-    let operand = operand_given(operand_kind, operand_quote, scale, mantissa);
-    let clause = start_given(start_kind, start_time, start_date, operator_kind, operand);
+    let clause = Start::from(StartFields {
+        kind: start_kind,
+        time: start_time,
+        date: start_date,
+        operator: operator_kind,
+        operand: operand_kind,
+        quote: operand_quote,
+        scale,
+        mantissa,
+        ..StartFields::default()
+    });
     let value = present_given(value_kind, value_scale, value_mantissa);
     give_decision(
         start::is_due(clause, file, date, time, taken_up, value, value_text),

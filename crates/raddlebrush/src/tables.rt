@@ -6,14 +6,15 @@ ghost use Rattle.session_table.specs.Calls.{making, made_bytes, placing, placed_
 ghost use Rattle.c_numbers.specs.Records.{answer_given};
 ghost use Rattle.c_answers.specs.Returned.{returned, GivesCount, GivesPlaced, GivesTaken};
 
-use c_answers::tables::{give_answered, give_collected, give_made, give_placed, give_taken};
+use c_answers::tables::{give_placed, give_taken};
+use c_answers::{give_count, give_done};
 use c_numbers::records::outcome_given;
 use counts::{CommandNumber, Ticket};
 
 pub fn rb_table_make(table: &mut [u8], max: u32) -> u64
     ensures { (result ≡ returned (making table.old max)) × (table.new ≡ made_bytes table.old max) }
 {
-    give_made(session_table::make(table, max))
+    give_done(session_table::make(table, max))
 }
 
 pub fn rb_table_place(
@@ -61,14 +62,7 @@ pub fn rb_table_answer(
         × (table.new ≡ answered_bytes table.old ticket command (answer_given outcome class code date time)) }
 {
     let o = outcome_given(outcome, class, code);
-    give_answered(session_table::answer(
-        table,
-        Ticket(ticket),
-        CommandNumber(command),
-        o,
-        date,
-        time,
-    ))
+    give_done(session_table::answer(table, Ticket(ticket), CommandNumber(command), o, date, time))
 }
 
 pub fn rb_table_collect(
@@ -82,7 +76,7 @@ pub fn rb_table_collect(
         × (table.new ≡ collected_bytes table.old program ticket (length out.old))
         × (out.new ≡ collected_out table.old program ticket out.old) }
 {
-    give_collected(
+    give_count(
         session_table::collect(table, program, Ticket(ticket), out),
         used,
     )
