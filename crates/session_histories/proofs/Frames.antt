@@ -10,7 +10,7 @@ use lib.ListN.{length}
 use Rattle.counts.specs.Limits.{commands, sessions}
 use Rattle.sessions.proofs.Loops.{first_same}
 use Rattle.sessions.specs.Find.{first}
-use Rattle.slot.proofs.Told.{told_answers, slot_beyond, slot_open, slot_held}
+use Rattle.slot.proofs.Told.{told_answers, open_or_taken, slot_beyond, slot_open, slot_held}
 use Rattle.slot.specs.Fields.{is_taken_at, answered_at, entry_at, head_of, entry_of, slot_of}
 use Rattle.slot.specs.Stored.{put_head, put_entry}
 use Rattle.slot.specs.declared.Head.{Head}
@@ -73,14 +73,14 @@ module _ (b : List ℕ) (e : sound_bytes b ≡ true) (d : List ℕ) (s : ℕ) (s
   slot_same =
       ⊎_elim
       (λ z. slot_beyond d s (omega arith) ∙ sym (slot_beyond b s (omega arith)))
-      (λ z. ⊎_elim (λ y. slot_open d s (ap (λ h. h.taken) head_same ∙ y) ∙ sym (slot_open b s y)) (λ y. held (omega arith) (λ q. omega arith))
-      (eq-zero-or-pos (head_of b s).taken))
+      (λ z. ⊎_elim (λ y. slot_open d s (ap (λ h. h.taken) head_same ∙ y) ∙ sym (slot_open b s y)) (λ y. held (omega arith) y)
+      (open_or_taken (head_of b s)))
       (eq-zero-or-pos (sessions - s))
     where
-      held : s < sessions → ((head_of b s).taken ≡ 0 → ⊥) → slot_of d s ≡ slot_of b s
+      held : s < sessions → (head_of b s).taken ≡ true → slot_of d s ≡ slot_of b s
       held l n =
           let hb = slot_held b s l n in
           let w = stands b e (λ x. cond x.taken 1 0) refl s (rw hb (omega arith)) in
           let few : (head_of b s).answered ≤ commands =
           omega (arith, w.session.answers_few, w.session.count_high, ap (λ x. length x.answers) hb, told_answers (head_of b s) (entry_of b s)) in
-          slot_held d s l (λ z. n (sym (ap (λ h. h.taken) head_same) ∙ z)) ∙ rw (head_same, entries_same (head_of b s).answered few) (sym hb)
+          slot_held d s l (ap (λ h. h.taken) head_same ∙ n) ∙ rw (head_same, entries_same (head_of b s).answered few) (sym hb)

@@ -13,7 +13,7 @@ use Rattle.sessions.proofs.Parts.{parts_sound}
 use Rattle.sessions.proofs.SoundKept.{fresh_sound}
 use Rattle.sessions.specs.Table.{fresh}
 use Rattle.session_table.specs.Calls.{fresh_bytes}
-use Rattle.slot.proofs.Told.{slot_open}
+use Rattle.slot.proofs.Told.{open_at}
 use Rattle.slot.specs.Fields.{head_of}
 use Rattle.table_layout.proofs.Numbers.{length_put_row, row_same}
 use Rattle.table_layout.specs.Layout.{table_bytes, head_at, number, put_table}
@@ -52,7 +52,7 @@ module _ (max : ℕ) (low : 1 ≤ max) (high : max ≤ sessions) where
       let vs : List ℕ = max ∷ 0 ∷ (max - 1) ∷ 0 ∷ [] in
       let read = row_same z 0 0 vs (rw length-replicate (omega arith)) (omega arith, (omega arith, (omega arith, (omega arith, tt)))) in
       state_same (read 0 0 (omega arith) refl) (read 1 1 (omega arith) refl) (read 2 2 (omega arith) refl) (rw (read 3 3 (omega arith) refl))
-      (λ s. slot_open _ s (from_0 z 0 vs (head_at s) (inr (omega arith)) ∙ zero_number table_bytes (head_at s)))
+      (λ s. open_at _ s (from_0 z 0 vs (head_at s) (inr (omega arith)) ∙ zero_number table_bytes (head_at s)))
 
   pub fresh_is_sound : sound_bytes (fresh_bytes max) ≡ true
   unfolding sound_bytes

@@ -1,18 +1,19 @@
 -- Each call's writes, as what the table without bytes does.
 use Prim.Native.Nat.{ℕ, ◌+◌, ◌≤◌, ◌<◌}
 use mathlib.Core.Path.{◌≡◌, ◌∙◌, ap, sym}
-use mathlib.Core.Bool.{true}
+use mathlib.Core.Bool.{true, not}
 use mathlib.Core.Logic.{inl, inr, ⊎_elim}
 use mathlib.Core.List.{List, [], ◌∷◌}
 use native.Mathlib.Omega.{arith}
 use borrow.Author.Tests.{ne_eqb}
+use lib.Dec.{eqb}
 use lib.ListN.{length, get_or}
 use Rattle.counts.specs.Limits.{commands, programs, sessions, ticket_most}
 use Rattle.sessions.proofs.Laws.{either, replaced_same, replaced_other}
 use Rattle.sessions.specs.Find.{at, replaced, first}
 use Rattle.sessions.specs.Table.{Session, no_session, State, new_session, after_place, after_take_up, after_collect}
 use Rattle.session_table.specs.Calls.{placed_at, collected_at}
-use Rattle.slot.proofs.Told.{slot_open, slot_held}
+use Rattle.slot.proofs.Told.{open_at, slot_held}
 use Rattle.slot.specs.Fields.{head_of, entry_of, session_of, slot_of}
 use Rattle.slot.specs.Stored.{new_head, put_head}
 use Rattle.table_layout.proofs.Numbers.{Outside, number_same, number_other, length_put_number, length_put_row, row_same}
@@ -59,7 +60,7 @@ module _ (b : List ℕ) (e : sound_bytes b ≡ true) where
         number_other with_head last_at t j (λ z. omega arith)
         ∙ row_same b (head_at s) 0 vs (omega (arith, size)) (omega arith, (omega arith, (omega arith, (omega arith, (omega arith, tt))))) i j l q in
         λ k. record {
-          taken = read 0 (head_at s) (omega arith) (omega arith) k;
+          taken = ap (λ v. not (eqb v 0)) (read 0 (head_at s) (omega arith) (omega arith)) k;
           program = read 1 (head_at s + 1) (omega arith) (omega arith) k;
           count = read 2 (head_at s + 2) (omega arith) (omega arith) k;
           answered = read 3 (head_at s + 3) (omega arith) (omega arith) k;
@@ -69,7 +70,7 @@ module _ (b : List ℕ) (e : sound_bytes b ≡ true) where
     placed_slot : slot_of placed_bytes s ≡ new_session p n t
     unfolding first
     placed_slot =
-        slot_held placed_bytes s below (λ z. omega (arith, ap (λ h. h.taken) placed_head)) ∙ ap (λ h. session_of h (entry_of placed_bytes s)) placed_head
+        slot_held placed_bytes s below (ap (λ h. h.taken) placed_head) ∙ ap (λ h. session_of h (entry_of placed_bytes s)) placed_head
 
     pub place_leaves : t ≡ number b last_at + 1 → abs (placed_at b p n (s, t)) ≡ after_place (abs b) s p n
     place_leaves q =
@@ -111,5 +112,5 @@ module _ (b : List ℕ) (e : sound_bytes b ≡ true) where
       (other last_at (λ z. omega arith))
       (other mark_at (λ z. omega arith))
       (ap hand_of (other hand_at (λ z. omega arith)))
-      (slots_replaced (slot_of b) (slot_of d) s no_session (slot_open d s (number_same b (head_at s) 0 (omega (arith, size)) (omega arith)))
+      (slots_replaced (slot_of b) (slot_of d) s no_session (open_at d s (number_same b (head_at s) 0 (omega (arith, size)) (omega arith)))
       (λ i n. slot_same b e d i (λ j k h. other j (λ z. ⊎_elim (λ y. omega arith) (λ y. omega arith) (slots_apart i s j n k h)))))

@@ -1,13 +1,13 @@
 -- What answering writes, as what the table without bytes does: one slot's entry and what is in hand.
 use Prim.Native.Nat.{ℕ, ◌+◌, ◌≤◌, ◌<◌}
 use mathlib.Core.Path.{◌≡◌, refl, ◌∙◌, ap, sym}
-use mathlib.Core.Bool.{true}
+use mathlib.Core.Bool.{true, not}
 use mathlib.Core.Logic.{inl, inr, ⊎_elim}
 use mathlib.Core.List.{List, [], ◌∷◌, ◌++◌}
 use native.Mathlib.Omega.{arith}
 use native.Mathlib.Numerals.{add-one}
 use borrow.Author.Tests.{ne_eqb, leb-true}
-use lib.Dec.{leb}
+use lib.Dec.{eqb, leb}
 use lib.ListN.{length, get_or}
 use Rattle.calendar.proofs.Laws.{date_lt, time_lt}
 use Rattle.calendar.specs.Calendar.{real_date, real_time}
@@ -125,7 +125,7 @@ module _ (b : List ℕ) (e : sound_bytes b ≡ true) (s : ℕ) (w : Waits b e s)
       let keep : (j : ℕ) → j < head_at s + 5 → head_at s ≤ j → (j ≡ answered_at s → ⊥) → number d j ≡ number b j =
       λ j l k m. other j (inl (omega arith)) m (λ z. omega arith) in
       λ k. record {
-        taken = keep (head_at s) (omega arith) (omega arith) (λ z. omega arith) k;
+        taken = ap (λ v. not (eqb v 0)) (keep (head_at s) (omega arith) (omega arith) (λ z. omega arith)) k;
         program = keep (head_at s + 1) (omega arith) (omega arith) (λ z. omega arith) k;
         count = keep (head_at s + 2) (omega arith) (omega arith) (λ z. omega arith) k;
         answered = answered_is k;
@@ -135,7 +135,7 @@ module _ (b : List ℕ) (e : sound_bytes b ≡ true) (s : ℕ) (w : Waits b e s)
   stored_slot : slot_of d s ≡ with_answer (slot_of b s) a
   unfolding taken_out head_of
   stored_slot =
-      slot_held d s below (λ z. w.stands_there.taken (sym (ap (λ h. h.taken) stored_head) ∙ z))
+      slot_held d s below (ap (λ h. h.taken) stored_head ∙ w.stands_there.taken)
       ∙ ap (λ h. session_of h (entry_of d s)) stored_head
       ∙ ap (λ l. record { taken = true; program = (head_of b s).program; count = (head_of b s).count; ticket = (head_of b s).ticket.0; answers = l }) answers_are
       ∙ ap (λ x. with_answer x a) (sym w.stands_there.held)

@@ -34,7 +34,7 @@ pub given_is : (b : List ℕ) (s : ℕ) (h : Head) {e : sound_bytes b ≡ true} 
     → done (s, h.ticket.0, low) ≡ given_from (abs b) s
 given_is b s h w q low said =
     let l = w.stands_there.below in
-    let t = asked b s h q l (λ x. x.ticket) (λ answer. its_ticket h answer (λ z. w.stands_there.taken (sym (ap (λ x. x.taken) q) ∙ z))) refl in
+    let t = asked b s h q l (λ x. x.ticket) (λ answer. its_ticket h answer (ap (λ x. x.taken) q ∙ w.stands_there.taken)) refl in
     let c = asked b s h q l lowest said refl in
     λ k. done (s, sym t k, sym c k)
 

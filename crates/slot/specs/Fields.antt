@@ -1,5 +1,5 @@
 -- Where each field of a session stands in lent bytes, and the session that the fields tell.
-use Rattle.std.specs.Prelude.{ℕ, ◌+◌, ◌-◌, ◌*◌, ◌≡◌, true, cond, List, eqb, ltb}
+use Rattle.std.specs.Prelude.{ℕ, ◌+◌, ◌-◌, ◌*◌, ◌≡◌, true, not, cond, List, eqb, ltb}
 use Rattle.counts.specs.Limits.{sessions}
 use Rattle.record.specs.declared.Outcome.{Outcome}
 use Rattle.record.specs.declared.Outcome.TheVariants.{Processed, Error}
@@ -9,7 +9,7 @@ use Rattle.sessions.specs.declared.Answer.{Answer}
 use Rattle.slot.specs.declared.Head.{Head}
 use Rattle.table_layout.specs.Layout.{head_at, number}
 
--- ---- a session's head, two rows: whether its number is taken, program, command count, answers so far; the ticket, and three numbers that are spare
+-- ---- a session's head, two rows: whether its number is taken (0: it is open), program, command count, answers so far; the ticket, and three numbers that are spare
 
 abbrev pub is_taken_at : ℕ → ℕ
 is_taken_at s = head_at s
@@ -20,7 +20,7 @@ answered_at s = head_at s + 3
 unfoldable pub head_of : List ℕ → ℕ → Head
 head_of b s =
     record {
-      taken = number b (is_taken_at s);
+      taken = not (eqb (number b (is_taken_at s)) 0);
       program = number b (head_at s + 1);
       count = number b (head_at s + 2);
       answered = number b (answered_at s);
@@ -50,9 +50,9 @@ abbrev pub session_of : Head → (ℕ → Answer) → Session
 session_of h answer =
     record { taken = true; program = h.program; count = h.count; ticket = h.ticket.0; answers = first h.answered (λ i. answer (i + 1)) }
 
--- 0: the number is open, whatever else stands there
+-- not taken: the number is open, whatever else stands there
 unfoldable pub told : Head → (ℕ → Answer) → Session
-told h answer = cond (eqb h.taken 0) no_session (session_of h answer)
+told h answer = cond h.taken (session_of h answer) no_session
 
 -- a question of a session, answered from its head alone: it is the same whatever its answers say
 abbrev pub Tells : {A : Type 0} → Head → (Session → A) → A → Type 0

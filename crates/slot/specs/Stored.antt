@@ -1,6 +1,6 @@
 -- What is written of a session: a new head, and a slot with one answer more. Need not be believed: `place_leaves`, `answer_leaves` and
 -- `answer_changes` of the page of claims say what is left.
-use Rattle.std.specs.Prelude.{ℕ, ◌+◌, List, [], ◌∷◌}
+use Rattle.std.specs.Prelude.{ℕ, ◌+◌, true, cond, List, [], ◌∷◌}
 use Rattle.counts.specs.declared.Ticket.{Ticket}
 use Rattle.record.specs.declared.Outcome.{Outcome}
 use Rattle.record.specs.declared.Outcome.TheVariants.{Processed, Error}
@@ -11,10 +11,10 @@ use Rattle.slot.specs.declared.Head.{Head}
 use Rattle.slot.specs.declared.Slot.{Slot}
 
 abbrev pub new_head : ℕ → ℕ → Ticket → Head
-new_head p n t = record { taken = 1; program = p; count = n; answered = 0; ticket = t }
+new_head p n t = record { taken = true; program = p; count = n; answered = 0; ticket = t }
 
 unfoldable pub put_head : List ℕ → ℕ → Head → List ℕ
-put_head b s h = put_row b (head_at s) 0 (h.taken ∷ h.program ∷ h.count ∷ h.answered ∷ h.ticket.0 ∷ [])
+put_head b s h = put_row b (head_at s) 0 (cond h.taken 1 0 ∷ h.program ∷ h.count ∷ h.answered ∷ h.ticket.0 ∷ [])
 
 -- an outcome as numbers
 unfoldable pub kind_of : Outcome → ℕ

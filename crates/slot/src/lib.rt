@@ -3,7 +3,7 @@
 // at an offset, and nobody tests a field of a head.
 #![tactic(auto)]
 
-ghost use Rattle.std.specs.Prelude.{◌≡◌, ◌+◌, ◌<◌, ◌≤◌, length};
+ghost use Rattle.std.specs.Prelude.{◌≡◌, true, ◌+◌, ◌<◌, ◌≤◌, length};
 ghost use Rattle.counts.specs.Limits.{commands, sessions};
 ghost use Rattle.sessions.specs.Table.{is_open, is_waiting, is_closed, is_ready, lowest, names};
 ghost use Rattle.table_layout.specs.Layout.{table_bytes, table_numbers, slot_numbers, head_at, put_number};
@@ -15,10 +15,10 @@ use record::Outcome;
 use sessions::Answer;
 use table_layout::{Table, number_at, put_number};
 
-// The head of a session. `taken` is 0 where the number is open, and then the others say nothing.
+// The head of a session. Where the number is not taken it is open, and the others say nothing; their bytes stay as they were.
 #[derive(Clone, Copy, Debug, PartialEq, Eq, Hash)]
 pub struct Head {
-    pub taken: u32,
+    pub taken: bool,
     pub program: u32,
     pub count: u32,
     pub answered: u32,
@@ -31,7 +31,7 @@ impl Head {
         ensures { result ≡ new_head program count ticket }
     {
         Head {
-            taken: 1,
+            taken: true,
             program,
             count,
             answered: 0,
@@ -43,21 +43,21 @@ impl Head {
     pub fn is_open(self) -> bool
         ensures { Tells self is_open result }
     {
-        self.taken == 0
+        !self.taken
     }
 
     // "a session with an unanswered command"
     pub fn is_waiting(self) -> bool
         ensures { Tells self is_waiting result }
     {
-        (self.taken != 0) & (self.answered < self.count)
+        self.taken & (self.answered < self.count)
     }
 
     // "The last command's answer closes the session."
     pub fn is_closed(self) -> bool
         ensures { Tells self is_closed result }
     {
-        (self.taken != 0) & (self.answered == self.count)
+        self.taken & (self.answered == self.count)
     }
 
     // "a closed session of that program and ticket"
@@ -72,15 +72,12 @@ impl Head {
     pub fn ticket_held(self) -> Ticket
         ensures { Tells self (λ x. x.ticket) result.0 }
     {
-        if self.taken == 0 {
-            return Ticket(0);
-        }
-        self.ticket
+        if self.taken { self.ticket } else { Ticket(0) }
     }
 
     // The lowest unanswered command.
     pub fn lowest(self) -> CommandNumber
-        requires { (self.taken ≡ 0 → ⊥) × (self.answered < commands) }
+        requires { (self.taken ≡ true) × (self.answered < commands) }
         ensures { Tells self lowest result.0 }
     {
         CommandNumber(self.answered + 1)
@@ -88,7 +85,7 @@ impl Head {
 
     // Whether ticket and command are those of its lowest unanswered command.
     pub fn names(self, ticket: Ticket, command: CommandNumber) -> bool
-        requires { (self.taken ≡ 0 → ⊥) × (self.answered < commands) }
+        requires { (self.taken ≡ true) × (self.answered < commands) }
         ensures { Tells self (λ x. names x ticket.0 command.0) result }
     {
         let low = self.lowest();
@@ -116,7 +113,7 @@ pub fn get_head(b: &[u8], s: SessionNumber) -> Head
 {
     let at = head_at(s);
     Head {
-        taken: number_at(b, at),
+        taken: number_at(b, at) != 0,
         program: number_at(b, at + 1),
         count: number_at(b, at + 2),
         answered: number_at(b, at + 3),
@@ -129,7 +126,7 @@ pub fn put_head(b: &mut [u8], s: SessionNumber, h: Head)
     ensures { b.new ≡ put_head b.old s.0 h }
 {
     let at = head_at(s);
-    put_number(b, at, h.taken);
+    put_number(b, at, u32::from(h.taken));
     put_number(b, at + 1, h.program);
     put_number(b, at + 2, h.count);
     put_number(b, at + 3, h.answered);

@@ -18,7 +18,7 @@ use Rattle.sessions.specs.Sound.{sound}
 use Rattle.sessions.specs.Table.{Session, no_session, is_waiting}
 use Rattle.table_layout.specs.Layout.{table_bytes, number, max_at, last_at, hand_at}
 use Rattle.table_search.specs.Limited.{Limited}
-use Rattle.slot.proofs.Told.{told_answers, slot_beyond, slot_open, slot_held}
+use Rattle.slot.proofs.Told.{told_answers, open_or_taken, slot_beyond, slot_open, slot_held}
 use Rattle.slot.specs.Fields.{head_of, entry_of, session_of, slot_of}
 use Rattle.slot.specs.declared.Head.{Head}
 use Rattle.table_sound.specs.Bytes.{hand_of, abs, sound_bytes}
@@ -34,8 +34,8 @@ clean_bytes b = record { empty = empty; beyond = λ s l. slot_beyond b s l }
         (λ z.
         ⊎_elim
         (λ y. slot_open b s y)
-        (λ y. absurd (false≢true (sym e ∙ ap (λ x. x.taken) (slot_held b s (omega arith) (λ q. omega arith)))))
-        (eq-zero-or-pos (head_of b s).taken))
+        (λ y. absurd (false≢true (sym e ∙ ap (λ x. x.taken) (slot_held b s (omega arith) y))))
+        (open_or_taken (head_of b s)))
         (eq-zero-or-pos (sessions - s))
 
 module _ (b : List ℕ) (e : sound_bytes b ≡ true) where
@@ -53,7 +53,7 @@ module _ (b : List ℕ) (e : sound_bytes b ≡ true) where
   -- a session stands at s, by a number that an open one has not: a program, a count, a ticket
   pub record Stands (s : ℕ) : Type 0 where
     pub below : s < sessions
-    pub taken : (head_of b s).taken ≡ 0 → ⊥
+    pub taken : (head_of b s).taken ≡ true
     pub held : slot_of b s ≡ session_of (head_of b s) (entry_of b s)
     pub session : SessionSound (number b max_at) (number b last_at) s (slot_of b s)
 
@@ -61,7 +61,7 @@ module _ (b : List ℕ) (e : sound_bytes b ≡ true) where
   stands f z s l =
       let w = is_session (abs b) sound_table f z s l in
       let k : s < sessions = omega (arith, w.number, sound_table.max_high) in
-      let n : (head_of b s).taken ≡ 0 → ⊥ = λ e. omega (arith, ap f (slot_open b s e)) in
+      let n : (head_of b s).taken ≡ true = ⊎_elim (λ e. absurd (omega (arith, ap f (slot_open b s e)))) (λ e. e) (open_or_taken (head_of b s)) in
       record { below = k; taken = n; held = slot_held b s k n; session = w }
 
   -- it has an unanswered command
@@ -77,7 +77,7 @@ module _ (b : List ℕ) (e : sound_bytes b ≡ true) where
       let q = ap (λ x. length x.answers) w.held ∙ told_answers (head_of b s) (entry_of b s) in
       record { stands_there = w; answers_few = omega (arith, w.session.count_high) }
 
-  pub waiting_head : {s : ℕ} (h : Head) → Waits s → h ≡ head_of b s → (h.taken ≡ 0 → ⊥) × (h.answered < commands)
+  pub waiting_head : {s : ℕ} (h : Head) → Waits s → h ≡ head_of b s → (h.taken ≡ true) × (h.answered < commands)
   waiting_head h w q = rw q (w.stands_there.taken, w.answers_few)
 
   -- what is in hand

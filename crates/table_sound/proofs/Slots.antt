@@ -30,7 +30,7 @@ use Rattle.table_layout.specs.Layout.{table_bytes, hand_number, table_of}
 use Rattle.table_layout.specs.declared.Table.{Table}
 use Rattle.table_sound.specs.Bytes.{hand_of, abs, sound_bytes, Seen, hand_known}
 
-pub head_is : (max last s : ℕ) (h : Head) → (h.taken ≡ 0 → ⊥)
+pub head_is : (max last s : ℕ) (h : Head) → h.taken ≡ true
     → Tells h (head_sound max last s)
     (ltb s max
     && (leb 1 h.program && leb h.program programs && (leb 1 h.count && leb h.count commands) && (leb 1 h.ticket.0 && leb h.ticket.0
@@ -43,12 +43,12 @@ head_is max last s h n answer = rw (told_session h answer n, told_answers h answ
 -- a ticket is none of a number's: of no session's, as an open number has ticket 0
 differs_is : (b : List ℕ) (i t : ℕ) → 1 ≤ t → not (eqb (slot_of b i).ticket t) ≡ differs (slot_of b i) t
 unfolding slot_of told differs is_open
-differs_is b i t l = go (ltb i sessions) (eqb (head_of b i).taken 0)
+differs_is b i t l = go (ltb i sessions) (head_of b i).taken
   where
-    go : (k m : Bool) → let x = cond k (cond m no_session (session_of (head_of b i) (entry_of b i))) no_session in
+    go : (k m : Bool) → let x = cond k (cond m (session_of (head_of b i) (entry_of b i)) no_session) no_session in
         not (eqb x.ticket t) ≡ (not x.taken || not (eqb x.ticket t))
-    go true true = rw (ne_eqb 0 t (λ e. omega arith))
-    go true false = refl
+    go true true = refl
+    go true false = rw (ne_eqb 0 t (λ e. omega arith))
     go false m = rw (ne_eqb 0 t (λ e. omega arith))
 
 -- ---- one slot
@@ -65,7 +65,7 @@ module _ {b : List ℕ} {t : Table} {s : ℕ} {h : Head} {seen : List ℕ}
 
     -- the tests of a session, each as a function answers it
     module _ (not_open : free ≡ false) where
-      pub taken : h.taken ≡ 0 → ⊥
+      pub taken : h.taken ≡ true
       taken = is_taken h (entry_of b s) (free-said (entry_of b s)) not_open
 
       abbrev x : Session

@@ -2,7 +2,7 @@
 // the sessions are gone through; the tickets seen so far are kept beside.
 #![tactic(auto)]
 
-ghost use Rattle.std.specs.Prelude.{◌≡◌, ◌&&◌, not, cond, ◌+◌, ◌<◌, ◌≤◌, eqb, ltb, length, get_or};
+ghost use Rattle.std.specs.Prelude.{◌≡◌, true, ◌&&◌, not, cond, ◌+◌, ◌<◌, ◌≤◌, eqb, ltb, length, get_or};
 ghost use Rattle.counts.specs.Limits.{commands, sessions};
 ghost use Rattle.sessions.specs.Find.{all};
 ghost use Rattle.sessions.specs.Sound.{head_sound, in_range_and_real, slot_sound, hand_sound};
@@ -24,7 +24,7 @@ fn limits_are_sound(t: Table) -> bool
 }
 
 fn head_is_sound(t: Table, s: SessionNumber, h: Head) -> bool
-    requires { h.taken ≡ 0 → ⊥ }
+    requires { h.taken ≡ true }
     ensures { Tells h (head_sound t.max t.last.0 s.0) result }
 {
     (s.0 < t.max)
