@@ -1,4 +1,0 @@
-use Rattle.slot.proofs.put_answered.Goals as goal
-
-pub returns : goal.returns
-returns c = cc
