@@ -26,18 +26,14 @@ some_if false e = refl
 module _ (s : List ℕ) (i : ℕ) where
   -- the word that begins with the letter at i
   module _ {l : Bool} (letter : l ≡ is_letter (get_or s i 0)) where
-    word : (r w : WordRead) → l ≡ true → r ≡ word_read s i → r ≡ w → name_of w ≡ name_at s i
+    pub no_word : l ≡ true → None ≡ word_read s i → None ≡ name_at s i
     unfolding name_at
-    word r w t is e = rw (sym letter ∙ t) (ap name_of (sym e ∙ is))
+    no_word t h = rw (sym letter ∙ t, sym h)
 
-    pub no_word : (r : WordRead) → l ≡ true → r ≡ word_read s i → r ≡ None → None ≡ name_at s i
-    no_word r t is e = word r None t is e
-
-    pub a_name : (r : WordRead) (w : Word) (end : ℕ) (n : Bool) → l ≡ true → r ≡ word_read s i → r ≡ Some (w, end) → n ≡ is_name w → n ≡ true → Some end ≡ name_at s i
-    a_name r w end n t is e name q = sym (rw (sym name ∙ q)) ∙ word r (Some (w, end)) t is e
-
-    pub no_name : (r : WordRead) (w : Word) (end : ℕ) (n : Bool) → l ≡ true → r ≡ word_read s i → r ≡ Some (w, end) → n ≡ is_name w → n ≡ false → None ≡ name_at s i
-    no_name r w end n t is e name q = sym (rw (sym name ∙ q)) ∙ word r (Some (w, end)) t is e
+    pub a_word : (w : Word) (end : ℕ) → l ≡ true → Some (w, end) ≡ word_read s i → {n : Bool} → n ≡ is_name w → {x : Option ℕ} → x ≡ then_some n end
+        → x ≡ name_at s i
+    unfolding name_at
+    a_word w end t h {n} name q = q ∙ rw (sym letter ∙ t, sym h, name) (some_if (is_name w) end)
 
     pub no_letter : l ≡ false → None ≡ name_at s i
     unfolding name_at
@@ -101,4 +97,4 @@ module _ (s : List ℕ) (i b : ℕ) (r : Bool) (byte : b ≡ get_or s i 0) (lett
   unfolding cell_at
   cell_value t h = rw (← byte, sym letter ∙ t) h
 
-pub ruleset field = (rules, no_word, a_name, no_name, no_letter, nothing_there, cell_name, cell_value, no_figures, pointed, whole, string_stood, a_string, a_signed, an_unsigned, no_value_there)
+pub ruleset field = (rules, no_word, a_word, no_letter, nothing_there, cell_name, cell_value, no_figures, pointed, whole, string_stood, a_string, a_signed, an_unsigned, no_value_there)

@@ -21,10 +21,8 @@ fn name_at(s: &[u8], i: usize) -> Option<usize>
     if !is_letter(*s.get(i)?) {
         return None;
     }
-    match word_at(s, i) {
-        Some((w, end)) if is_name(w) => Some(end),
-        _ => None,
-    }
+    let (word, end) = word_at(s, i)?;
+    is_name(word).then_some(end)
 }
 
 // The digits from d on, with a point between two of them where one stands, at most 16: the place after them.
@@ -101,6 +99,7 @@ struct File<'a> {
     delimiter: Delimiter,
 }
 
+// In its loops a turn begins where the field or the line before it ended: no range and no iterator of the library gives these places.
 impl File<'_> {
     // The line that begins at i: how many fields it has, and the place after it.
     fn line_at(&self, i: usize, field: Field) -> Option<(usize, usize)>

@@ -1,7 +1,7 @@
 -- The cells are whole lines exactly where they are the fields of rows that fit, and their text is the report of these rows.
 use Prim.Native.Nat.{ℕ, ◌+◌, ◌-◌, ◌≤◌, ◌<◌}
 use mathlib.Core.Path.{◌≡◌, refl, sym, ◌∙◌, ap}
-use mathlib.Core.Bool.{Bool, true, false, false≢true, cond, ◌||◌}
+use mathlib.Core.Bool.{Bool, true, false, false≢true, cond, ◌||◌, or-true, or-false}
 use mathlib.Core.List.{List, [], ◌∷◌, ◌++◌, append_assoc}
 use native.Mathlib.Omega.{arith}
 use borrow.Author.Tests.{eqb-true, eqb-false, eq-eqb, ne_eqb}
@@ -26,14 +26,6 @@ module _ (d : ℕ) (source : List ℕ) (many : ℕ) where
   -- a field, the delimiter and a line are a line
   join : (x l k : List ℕ) → (x ++ (d ∷ [])) ++ (l ++ k) ≡ (x ++ (d ∷ l)) ++ k
   join x l k = simp append_assoc
-
-  or-true : (v : Bool) → (v || true) ≡ true
-  or-true true = refl
-  or-true false = refl
-
-  or_same : (v : Bool) → (v || false) ≡ v
-  or_same true = refl
-  or_same false = refl
 
   -- one cell more in front: the last of its line
   last_cell : (values : Bool) (left p n : ℕ) (cells : List ℕ) → left ≡ 1 → IsCell values source p n → Rest (values || true) many cells
@@ -84,7 +76,7 @@ module _ (d : ℕ) (source : List ℕ) (many : ℕ) where
 
       by_left : (b : Bool) → eqb left 1 ≡ b → Rest (values || b) (cond b many (left - 1)) cells → Rest values left (p ∷ (n ∷ cells))
       by_left true e g = last_cell values left p n cells (eqb-true left 1 e) cell g
-      by_left false e g = more_cell values left p n cells (no_one (eqb-false left 1 e)) few cell (rw (or_same values) at g)
+      by_left false e g = more_cell values left p n cells (no_one (eqb-false left 1 e)) few cell (rw (or-false values) at g)
 
   -- ---- the other way
 
@@ -127,7 +119,7 @@ module _ (d : ℕ) (source : List ℕ) (many : ℕ) where
 
     lines_more : (left ≡ 1 → ⊥) → are_lines source many values left (p ∷ (n ∷ rest)) ≡ are_lines source many values (left - 1) rest
     unfolding are_lines
-    lines_more e = rw (is, ne_eqb left 1 e, or_same values)
+    lines_more e = rw (is, ne_eqb left 1 e, or-false values)
 
     text_more : (left ≡ 1 → ⊥) → (y : List ℕ) (ys : List (List ℕ)) (k : List ℕ) → text_from d source many (left - 1) rest ≡ line d (y ∷ ys) ++ k
         → text_from d source many left (p ∷ (n ∷ rest)) ≡ line d (part source p n ∷ (y ∷ ys)) ++ k

@@ -9,9 +9,6 @@ loop-at-init c = fields_start _ _ _ _
 pub returns-in_err-end : goal.returns-in_err-end
 returns-in_err-end c = c.from_residual.ensures ∙ no_field _ _ _ _ _ _ c.loop-at.invariant c.loop-at-test.true c.in_err-end.ensures
 
-pub overflow_add-k : goal.overflow_add-k
-overflow_add-k c = omega (arith, c.loop-at.invariant.few)
-
 pub separator_at-requires : goal.separator_at-requires
 separator_at-requires c = (field_room _ _ _ _ _ _ c.loop-at.invariant c.loop-at-test.true _ c.in_ok-end.ensures).1
 

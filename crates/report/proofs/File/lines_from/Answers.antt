@@ -7,9 +7,6 @@ use Rattle.report.proofs.File.lines_from.Goals as goal
 pub loop-at-init : goal.loop-at-init
 loop-at-init c = lines_start _ _ _ _ c.requires
 
-pub overflow_add-k : goal.overflow_add-k
-overflow_add-k c = omega (arith, c.loop-at.invariant.few)
-
 pub loop-at-smaller : goal.loop-at-smaller
 loop-at-smaller c = omega (arith, line_ahead _ (one_of_four c.args.self.now.delimiter) _ _ _ _ _ c.loop-at.invariant c.loop-at-test.true _ _ c.in-Some.ensures)
 

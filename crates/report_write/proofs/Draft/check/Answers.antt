@@ -9,9 +9,6 @@ unfolding write_refusal
 returns-then-not-are_lines c =
     let a = c.args.self.now in rw (in_range a.delimiter a.columns a.in_range, sym c.are_lines.ensures ∙ c.if-not-are_lines.true)
 
-pub has_room-requires : goal.has_room-requires
-has_room-requires c = sym c.are_lines.ensures ∙ c.if-not-are_lines.false
-
 pub returns-then-not-has_room : goal.returns-then-not-has_room
 unfolding write_refusal
 returns-then-not-has_room c =

@@ -12,9 +12,6 @@ overflow_add-needed c = omega (arith, taken_fits _ _ _ _ _ _ _ c.loop-rest.invar
 pub returns-then-free-needed : goal.returns-then-free-needed
 returns-then-free-needed c = no_room _ _ _ _ _ _ _ c.loop-rest.invariant c.args.self.now.in_range.0 _ _ _ (two _ c.in-len2-up.len_at_least) _ c.separator_length.ensures c.if-free-needed.true
 
-pub left_after-left-requires : goal.left_after-left-requires
-left_after-left-requires c = c.loop-rest.invariant.here.some
-
 pub loop-rest-preserved : goal.loop-rest-preserved
 loop-rest-preserved c = room_next _ _ _ _ _ _ _ c.loop-rest.invariant c.args.self.now.in_range.0 _ _ _ (two _ c.in-len2-up.len_at_least) _ c.separator_length.ensures _ c.left_after-left.ensures c.if-free-needed.false
 

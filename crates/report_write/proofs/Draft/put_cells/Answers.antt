@@ -8,9 +8,6 @@ loop-rest-init c = written_start _ _ _ _ _ c.args.self.now.in_range.0 c.requires
 pub put_cell-at-requires : goal.put_cell-at-requires
 put_cell-at-requires c = cell_fits _ _ _ _ _ _ _ _ _ c.loop-rest.invariant c.args.self.now.in_range.0 _ _ _ (two _ c.in-len2-up.len_at_least) c.requires.1
 
-pub left_after-left-requires : goal.left_after-left-requires
-left_after-left-requires c = c.loop-rest.invariant.here.some
-
 pub loop-rest-preserved : goal.loop-rest-preserved
 loop-rest-preserved c = written_next _ _ _ _ _ _ _ _ _ c.loop-rest.invariant c.args.self.now.in_range.0 _ _ _ (two _ c.in-len2-up.len_at_least) _ _ _ c.left_after-left.ensures c.put_cell-at.ensures
 
