@@ -17,7 +17,10 @@ use Rattle.token.specs.declared.Why.TheVariants.{Stray, OpenString, BrokenString
 use Rattle.item.specs.declared.Class.{Class as Code}
 use Rattle.item.specs.declared.Class.TheVariants as code
 use Rattle.item.specs.Items.{code_of, code_no}
-use Rattle.item.specs.Tokens.{eight_at, number_class, date_number, two_at, time_number}
+use Rattle.field.specs.Part.{part}
+use Rattle.std.specs.Prelude.{unwrap_or}
+use native.Mathlib.Omega.{arith}
+use Rattle.item.specs.Tokens.{value_of, eight_at, number_class, date_number, two_at, time_number}
 use Rattle.std.specs.declared.option.Option.{Option}
 use Rattle.std.specs.declared.option.Option.TheVariants.{Some, None}
 
@@ -125,6 +128,17 @@ module _ (s : List ℕ) (a b : ℕ) where
 -- a field of digits fits its width
 pub field_fits : (w : ℕ) (p : List ℕ) (n : ℕ) (r : Option ℕ) → r ≡ digits_read w p → r ≡ Some n → n < 10 ^ w
 field_fits w p n r d e = (read_back w p n (sym d ∙ e)).1
+
+pub value_or : (r : Option ℕ) → unwrap_or r 0 ≡ value_of r
+value_or (Some n) = refl
+value_or None = refl
+
+pub two_fits : (s : List ℕ) (a : ℕ) → two_at s a < 100
+two_fits s a = go (digits_read 2 (part s a 2)) refl
+  where
+    go : (r : Option ℕ) → digits_read 2 (part s a 2) ≡ r → value_of r < 100
+    go (Some n) e = omega (arith, field_fits 2 _ n _ refl e)
+    go None e = omega arith
 
 -- a time's number, from its three fields
 pub timed : (s : List ℕ) (a x y z : ℕ) → x ≡ two_at s a → y ≡ two_at s (a + 3) → z ≡ two_at s (a + 6) → x * 10000 + y * 100 + z ≡ time_number s a

@@ -123,16 +123,18 @@ fn item_with(
     }
 }
 
+// What a token that is no number reads as.
+const NO_NUMBER: Number = Number {
+    mantissa: 0,
+    scale: 0,
+};
+
 // The same of a token that is no number and no operator.
 fn item_of(base: usize, class: Class, start: usize, end: usize, value: u32) -> Item
     requires { (start ≤ end) × (base + end < 18446744073709551616) }
     ensures { result ≡ made base class start end value }
 {
-    let number = Number {
-        mantissa: 0,
-        scale: 0,
-    };
-    item_with(base, class, start, end, value, number, Operator::Equal)
+    item_with(base, class, start, end, value, NO_NUMBER, Operator::Equal)
 }
 
 // The same of an operator.
@@ -140,40 +142,42 @@ fn sign_item(base: usize, start: usize, end: usize, operator: Operator) -> Item
     requires { (start ≤ end) × (base + end < 18446744073709551616) }
     ensures { result ≡ made_of base (code_of operatorClass) start end 0 zero operator }
 {
-    let number = Number {
-        mantissa: 0,
-        scale: 0,
-    };
-    item_with(base, Class::Operator, start, end, 0, number, operator)
+    item_with(base, Class::Operator, start, end, 0, NO_NUMBER, operator)
 }
 
-// The number from a to b: of eight bare digits it may be a date.
+// The class of the number from a to b, and the date that it is: of eight bare digits it may be one.
+fn dated(s: &[u8], a: usize, b: usize) -> (Class, u32)
+    requires { Short s.now a b }
+    ensures { (result.0 ≡ code_of (number_class s.now a b)) × (result.1 ≡ date_number s.now a b) }
+{
+    if b - a == 8 {
+        let Some(n) = digits_at(s, a, 8) else {
+            return (Class::Number, 0);
+        };
+        let day = n as u32;
+        if is_real_date(day) {
+            return (Class::Date, day);
+        }
+        return (Class::UnrealDate, day);
+    }
+    (Class::Number, 0)
+}
+
+// The number from a to b.
 fn number_item(s: &[u8], base: usize, a: usize, b: usize) -> Item
     requires { Short s.now a b × (base + b < 18446744073709551616) }
     ensures { result ≡ made_of base (code_of (number_class s.now a b)) a b (date_number s.now a b) (number_of (part s.now a (b - a))) Equal }
 {
+    let (class, day) = dated(s, a, b);
     let number = number_at(s, a, b - a);
-    if b - a == 8 {
-        let Some(n) = digits_at(s, a, 8) else {
-            return item_with(base, Class::Number, a, b, 0, number, Operator::Equal);
-        };
-        let day = n as u32;
-        if is_real_date(day) {
-            return item_with(base, Class::Date, a, b, day, number, Operator::Equal);
-        }
-        return item_with(base, Class::UnrealDate, a, b, day, number, Operator::Equal);
-    }
-    item_with(base, Class::Number, a, b, 0, number, Operator::Equal)
+    item_with(base, class, a, b, day, number, Operator::Equal)
 }
 
 // The number of two digits at a.
 fn two_at(s: &[u8], a: usize) -> u32
     ensures { (result ≡ two_at s.now a) × (result < 100) }
 {
-    let Some(n) = digits_at(s, a, 2) else {
-        return 0;
-    };
-    n as u32
+    digits_at(s, a, 2).unwrap_or(0) as u32
 }
 
 // The time dd:dd:dd from a to b.
@@ -182,10 +186,12 @@ fn time_item(s: &[u8], base: usize, a: usize, b: usize) -> Item
     ensures { result ≡ made base (code_of (time_class s.now a)) a b (time_number s.now a) }
 {
     let time = two_at(s, a) * 10000 + two_at(s, a + 3) * 100 + two_at(s, a + 6);
-    if is_real_time(time) {
-        return item_of(base, Class::Time, a, b, time);
-    }
-    item_of(base, Class::UnrealTime, a, b, time)
+    let class = if is_real_time(time) {
+        Class::Time
+    } else {
+        Class::UnrealTime
+    };
+    item_of(base, class, a, b, time)
 }
 
 // The next token of the bytes s, which stand from the place base on, from the place at on.

@@ -1,33 +1,5 @@
 -- `item::number_item` meets its contract.
-use Rattle.item.proofs.Classes.{field_fits, other_length, not_bare, a_date, no_date}
-use native.Mathlib.Omega.{arith}
-use mathlib.Core.Path.{sym, ◌∙◌}
 use Rattle.item.proofs.number_item.Goals as goal
 
-pub returns-in_default : goal.returns-in_default
-returns-in_default c =
-    let d = not_bare _ _ _ c.if-b-a-eq8.true
-    (sym c.digits_at.ensures ∙ c.in_default.is) in
-    rw (d.class, d.value, ← c.number_at-number.ensures) c.item_with.ensures
-
-pub overflow_cast-day : goal.overflow_cast-day
-overflow_cast-day c = omega (arith, field_fits 8 _ _ _ c.digits_at.ensures c.in-Some.is)
-
-pub returns-then-is_real_date : goal.returns-then-is_real_date
-returns-then-is_real_date c =
-    let d = a_date _ _ _ _ c.if-b-a-eq8.true
-    (sym c.digits_at.ensures ∙ c.in-Some.is)
-    (sym c.is_real_date.ensures ∙ c.if-is_real_date.true) in
-    rw (d.class, d.value, ← c.number_at-number.ensures) c.item_with-then-is_real_date.ensures
-
-pub returns-then-b-a-eq8 : goal.returns-then-b-a-eq8
-returns-then-b-a-eq8 c =
-    let d = no_date _ _ _ _ c.if-b-a-eq8.true
-    (sym c.digits_at.ensures ∙ c.in-Some.is)
-    (sym c.is_real_date.ensures ∙ c.if-is_real_date.false) in
-    rw (d.class, d.value, ← c.number_at-number.ensures) c.item_with-then-b-a-eq8.ensures
-
 pub returns : goal.returns
-returns c =
-    let d = other_length c.args.s.now _ _ c.if-b-a-eq8.false in
-    rw (d.class, d.value, ← c.number_at-number.ensures) c.item_with-2.ensures
+returns c = rw (← c.dated-class.ensures.0, ← c.dated-class.ensures.1, ← c.number_at-number.ensures) c.item_with.ensures

@@ -1,18 +1,16 @@
 -- `item::two_at` meets its contract.
-use Rattle.item.proofs.Classes.{field_fits}
-use Rattle.item.specs.Tokens.{value_of}
+use mathlib.Core.Path.{◌∙◌, ap}
 use native.Mathlib.Omega.{arith}
-use mathlib.Core.Path.{sym, ◌∙◌, ap}
+use Rattle.item.specs.Tokens.{value_of}
+use Rattle.item.proofs.Classes.{value_or, two_fits}
 use Rattle.item.proofs.two_at.Goals as goal
 
-pub returns-in_default : goal.returns-in_default
-returns-in_default c = (ap value_of (sym (sym c.digits_at.ensures ∙ c.in_default.is)), omega arith)
-
 pub overflow_cast-result : goal.overflow_cast-result
-overflow_cast-result c = omega (arith, field_fits 2 _ _ _ c.digits_at.ensures c.in-Some.is)
+overflow_cast-result c =
+    let is = c.unwrap_or.ensures ∙ value_or c.digits_at.result ∙ ap value_of c.digits_at.ensures in
+    omega (arith, is, two_fits c.args.s.now c.args.a)
 
 pub returns : goal.returns
-returns c = (
-  ap value_of (sym (sym c.digits_at.ensures ∙ c.in-Some.is)),
-  omega (arith, field_fits 2 _ _ _ c.digits_at.ensures c.in-Some.is),
-)
+returns c =
+    let is = c.unwrap_or.ensures ∙ value_or c.digits_at.result ∙ ap value_of c.digits_at.ensures in
+    (is, omega (arith, is, two_fits c.args.s.now c.args.a))
