@@ -15,7 +15,8 @@ use record::Outcome;
 use sessions::Answer;
 use table_layout::{Table, number_at, put_number};
 
-// The head of a session. Where the number is not taken it is open, and the others say nothing; their bytes stay as they were.
+// The head of a session. Where the number is not taken it is open, and the others say nothing; their bytes stay as they were. It is no Option: every
+// question of a head is asked of an open number too, so each caller would open the Option for each question.
 #[derive(Clone, Copy, Debug, PartialEq, Eq, Hash)]
 pub struct Head {
     pub taken: bool,
