@@ -206,36 +206,13 @@ pub struct Slot {
     pub entry: Answer,
 }
 
-// The core, by value.
-fn with_answer(slot: Slot, a: Answer) -> Slot
-    requires { slot.head.answered < commands }
-    ensures { result ≡ with_entry slot a }
-{
-    Slot {
-        head: Head {
-            answered: slot.head.answered + 1,
-            ..slot.head
-        },
-        entry: a,
-    }
-}
-
 // One slot lent mutably: the answer is stored in it.
 fn store_answer(slot: &mut Slot, a: Answer)
     requires { slot.old.head.answered < commands }
     ensures { slot.new ≡ with_entry slot.old a }
 {
-    *slot = with_answer(*slot, a);
-}
-
-// From a slot by value to a slot by value: it lends its own to `store_answer`.
-fn stored(slot: Slot, a: Answer) -> Slot
-    requires { slot.head.answered < commands }
-    ensures { result ≡ with_entry slot a }
-{
-    let mut s = slot;
-    store_answer(&mut s, a);
-    s
+    slot.head.answered += 1;
+    slot.entry = a;
 }
 
 // Nothing is stored yet, and no entry is read: what stands in the bytes is overwritten.
@@ -268,5 +245,7 @@ pub fn answer_slot(b: &mut [u8], s: SessionNumber, a: Answer)
     requires { (length b.old ≡ table_bytes) × (s.0 < sessions) × ((head_of b.old s.0).answered < commands) × (kind_of a.outcome ≤ 4294967295) }
     ensures { b.new ≡ put_slot b.old s.0 (with_entry (taken_out b.old s.0) a) }
 {
-    put_slot(b, s, stored(get_slot(b, s), a))
+    let mut slot = get_slot(b, s);
+    store_answer(&mut slot, a);
+    put_slot(b, s, slot);
 }
