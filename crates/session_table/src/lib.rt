@@ -98,10 +98,8 @@ fn given(b: &[u8], s: SessionNumber) -> (SessionNumber, Ticket, CommandNumber)
     requires { (sound_bytes b.now ≡ true) × (is_waiting (slot_of b.now s.0) ≡ true) }
     ensures { done (result.0.0, result.1.0, result.2.0) ≡ given_from (abs b.now) s.0 }
 {
-    let h = get_head(b, s);
-    let t = h.ticket;
-    let command = h.lowest();
-    (s, t, command)
+    let head = get_head(b, s);
+    (s, head.ticket, head.lowest())
 }
 
 // The session is next in turn: its command is in hand now.
@@ -109,10 +107,10 @@ fn take_up_at(b: &mut [u8], s: SessionNumber) -> (SessionNumber, Ticket, Command
     requires { (only (taking_up b.old) ≡ done tt) × (number b.old hand_at ≡ 0) × (is_waiting (slot_of b.old s.0) ≡ true) × (given_from (abs b.old) s.0 ≡ taking_up b.old) }
     ensures { (done (result.0.0, result.1.0, result.2.0) ≡ taking_up b.old) × (b.new ≡ taken_bytes b.old) }
 {
-    let r = given(b, s);
+    let command = given(b, s);
     put_mark(b, s);
     put_hand(b, Some(s));
-    r
+    command
 }
 
 // Nothing is in hand.

@@ -5,8 +5,8 @@ use Rattle.session_table.proofs.Turns.{take_up_sound, given_leaves}
 use borrow.Author.Rules.{rules}
 use Rattle.session_table.proofs.take_up_at.Goals as goal
 
-pub given-r-requires : goal.given-r-requires
-given-r-requires c = (take_up_sound _ c.requires.0, c.requires.2)
+pub given-command-requires : goal.given-command-requires
+given-command-requires c = (take_up_sound _ c.requires.0, c.requires.2)
 
 pub put_mark-requires : goal.put_mark-requires
 put_mark-requires c = sound_size _ (take_up_sound _ c.requires.0)
