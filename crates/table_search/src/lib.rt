@@ -29,9 +29,10 @@ fn in_turn(t: Table, i: u32) -> SessionNumber
 {
     let s = t.mark.0 + 1 + i;
     if s < t.max {
-        return SessionNumber(s);
+        SessionNumber(s)
+    } else {
+        SessionNumber(s - t.max)
     }
-    SessionNumber(s - t.max)
 }
 
 // "beginning after the number last taken up and going round, the first session with an unanswered command"
