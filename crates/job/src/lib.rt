@@ -19,7 +19,7 @@ use statement::{Statement, statement_of};
 use token::is_text;
 
 // A statement, its own offset and the place after its ;
-#[derive(Clone, Copy)]
+#[derive(Clone, Copy, Debug, PartialEq, Eq, Hash)]
 pub struct StatementAt {
     pub statement: Statement,
     pub offset: usize,

@@ -17,7 +17,7 @@ use statement::{Operand, Start};
 use token::Operator;
 
 // The parameter's present value: a number, or the bytes that are given with it.
-#[derive(Clone, Copy)]
+#[derive(Clone, Copy, Debug, PartialEq, Eq, Hash)]
 pub enum Present {
     Number(Number),
     Text,
@@ -30,7 +30,7 @@ const MANTISSA_LIMIT: u64 = 10000000000000000;
 const ZERO_LEVEL: u64 = 100000000000000000;
 
 // A whole number as its sign and its magnitude.
-#[derive(Clone, Copy)]
+#[derive(Clone, Copy, Debug, PartialEq, Eq, Hash)]
 struct SignAndSize {
     minus: bool,
     size: u64,

@@ -30,13 +30,13 @@ pub enum Source {
 }
 
 // A number, or a string by the place of its opening quote.
-#[derive(Clone, Copy)]
+#[derive(Clone, Copy, Debug, PartialEq, Eq, Hash)]
 pub enum Operand {
     Number(Number),
     Text(usize),
 }
 
-#[derive(Clone, Copy)]
+#[derive(Clone, Copy, Debug, PartialEq, Eq, Hash)]
 pub struct Condition {
     pub name: Part,
     pub operator: Operator,
@@ -44,7 +44,7 @@ pub struct Condition {
 }
 
 // A start clause is one of three; a missing one, where it may be missing, reads as the first. A time is hhmmss, and its optional date yyyymmdd.
-#[derive(Clone, Copy)]
+#[derive(Clone, Copy, Debug, PartialEq, Eq, Hash)]
 pub enum Start {
     Immediate,
     At(u32, Option<u32>),
@@ -58,7 +58,7 @@ pub enum Aborted {
 }
 
 // A statement. A file spec is held as the place of its opening quote.
-#[derive(Clone, Copy)]
+#[derive(Clone, Copy, Debug, PartialEq, Eq, Hash)]
 pub enum Statement {
     Job {
         name: Part,
@@ -84,7 +84,7 @@ pub enum Statement {
 }
 
 // An UPLOAD or DOWNLOAD up to its start clause.
-#[derive(Clone, Copy)]
+#[derive(Clone, Copy, Debug, PartialEq, Eq, Hash)]
 pub struct Transfer {
     pub download: bool,
     pub file: usize,
