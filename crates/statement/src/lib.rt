@@ -1,4 +1,6 @@
-// The statements of a job file: one function to a point of the grammar, each from the place where its first token is looked for.
+// The statements of a job file: one function to a point of the grammar, each from the place where its first token is looked for. The bytes, their base
+// and that place stay three parameters: a struct with `Seen` as its invariant, which has a lifetime, cannot be `Copy`, so each contract would have to
+// speak of its entry and its exit.
 #![tactic(auto)]
 
 ghost use Rattle.std.specs.Prelude.{◌≡◌};
@@ -83,7 +85,7 @@ pub enum Statement {
     },
 }
 
-// An UPLOAD or DOWNLOAD up to its start clause.
+// An UPLOAD or DOWNLOAD up to its start clause. Which way it moves is a bool: a yes or no that is tested once.
 #[derive(Clone, Copy, Debug, PartialEq, Eq, Hash)]
 pub struct Transfer {
     pub download: bool,
