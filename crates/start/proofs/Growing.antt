@@ -2,9 +2,9 @@
 use Prim.Native.Nat.{ℕ, ◌+◌, ◌-◌, ◌*◌, ◌^◌, ◌≤◌, ◌<◌}
 use mathlib.Core.Path.{◌≡◌, sym, ap, ◌∙◌}
 use mathlib.Core.Bool.{Bool, true, false}
-use mathlib.Core.Logic.{inl, inr}
+use mathlib.Core.Logic.{inr}
 use native.Mathlib.Omega.{arith}
-use native.Mathlib.Nat.{mul_assoc, mul-one, mul-le-mul_left}
+use native.Mathlib.Nat.{mul_assoc, mul-le-mul_left}
 use lib.IntN.{ℤ, nat_abs}
 use Rattle.decimal.proofs.Laws.{tenfold, ten_le}
 use Rattle.start.specs.Decision.{negative, mantissa_limit, Grown, Levelled}

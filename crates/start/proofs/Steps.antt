@@ -9,7 +9,6 @@ use borrow.Author.Tests.{ne_eqb}
 use lib.Dec.{eqb, ltb}
 use lib.Pointwise.{pointwise}
 use lib.IntN.{ℤ, nat_abs}
-use lib.ListN.{length}
 use Rattle.counts.specs.Limits.{number_digits}
 use Rattle.counts.specs.Refusals.{not_real, not_a_record, not_comparable}
 use Rattle.counts.specs.Result.{refused, done}
@@ -21,7 +20,7 @@ use Rattle.grammar.specs.Statement.{Operator, Number, Start}
 use Rattle.meaning.specs.Paper.{paper_value}
 use Rattle.statement.specs.declared.Operand.{Operand}
 use Rattle.statement.specs.declared.Operand.TheVariants as operand
-use Rattle.start.specs.Due.{Compared, number, Given}
+use Rattle.start.specs.Due.{number, Given}
 use Rattle.start.specs.Decision.{present_value, by_order, number_holds, comparable, is_permitted, value_permitted, constant_permitted, constant_of, condition_refusal, all_real, clause_refusal, due_refusal, is_due, decision, negative, mantissa_limit, Levelled}
 use Rattle.start.specs.declared.Present.{Present}
 use Rattle.start.specs.declared.Present.TheVariants as present
