@@ -8,7 +8,7 @@ use borrow.Author.Tests.{le-leb, lt-leb}
 use lib.Dec.{leb}
 use lib.ListN.{length, drop, set}
 use lib.Seq.{set_split}
-use Rattle.std.specs.declared.option.Option.TheVariants.{Some, None}
+use Rattle.std.specs.declared.option.Option.TheVariants.{Some}
 use Rattle.counts.specs.Limits.{file_bytes}
 use Rattle.counts.specs.Refusals.{file_too_long, too_few_places}
 use Rattle.counts.specs.Result.{Result, counted}

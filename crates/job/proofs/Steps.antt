@@ -6,7 +6,7 @@ use mathlib.Core.List.{List}
 use native.Mathlib.Omega.{arith}
 use borrow.Author.Tests.{eqb-false, ltb-false, lt-ltb, le-ltb, ne_eqb}
 use lib.Dec.{eqb, ltb}
-use Rattle.std.specs.declared.option.Option.TheVariants.{Some, None}
+use Rattle.std.specs.declared.option.Option.TheVariants.{None}
 use Rattle.counts.specs.Limits.{statements}
 use Rattle.counts.specs.Refusals.{unexpected, too_many_statements}
 use Rattle.counts.specs.Result.Result.{done}

@@ -1,5 +1,4 @@
-use Prim.Native.Nat.{◌+◌}
-use mathlib.Core.Path.{◌≡◌, refl}
+use mathlib.Core.Path.{refl}
 use native.Mathlib.Omega.{arith}
 use lib.ListN.{length-set}
 use Rattle.job.proofs.Loops.{block_refused, none≢some, all_read, refused_there, room, in_file, again}

@@ -1,11 +1,9 @@
 -- `job::read_job` meets its contract.
-use Prim.Native.Nat.{◌<◌}
-use mathlib.Core.Path.{◌≡◌, refl}
+use mathlib.Core.Path.{refl}
 use native.Mathlib.Omega.{arith}
-use lib.ListN.{length}
 use Rattle.counts.specs.Result.Result.{done as whole}
 use Rattle.statement.proofs.Passed.{handed_on}
-use Rattle.job.proofs.Answers.{too_long, refused_first, first_in_file, room_for_first, taken_first, refused_later}
+use Rattle.job.proofs.Answers.{too_long, refused_first, first_in_file, taken_first, refused_later}
 use Rattle.job.proofs.read_job.Goals as goal
 
 pub returns-then-file-gt-FILE_BYTES : goal.returns-then-file-gt-FILE_BYTES
