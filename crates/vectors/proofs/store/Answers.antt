@@ -7,4 +7,4 @@ pub answer_slot-requires : goal.answer_slot-requires
 unfolding kind_of
 answer_slot-requires c =
     let few = rw c.get_head-head.ensures at c.if-head-lt-COMMANDS.true in
-    (c.if-table-eq-SIZE.true, omega arith, few, omega arith)
+    (omega arith, omega arith, few, omega arith)

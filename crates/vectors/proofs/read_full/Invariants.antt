@@ -1,6 +1,0 @@
--- What is read stands at the buffer's start.
-use Rattle.std.proofs.Common.{◌≤◌, length}
-use Rattle.vectors.proofs.read_full.Given as goal
-
-abbrev pub invariant-loop : goal.invariant-loop
-invariant-loop g l = l.done ≤ length l.buf
