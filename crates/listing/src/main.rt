@@ -12,7 +12,7 @@ use std::{fmt, io};
 const ROOM: usize = 65536;
 
 // A statement, shown by its keyword.
-#[derive(Clone, Copy)]
+#[derive(Clone, Copy, Debug, PartialEq, Eq, Hash)]
 struct Keyword(Statement);
 
 impl fmt::Display for Keyword {

@@ -69,7 +69,7 @@ fn run_job(rt: &impl Print, file: &[u8]) -> io::Result<()> {
 
 // ---- records
 
-#[derive(Clone, Copy)]
+#[derive(Clone, Copy, Debug, PartialEq, Eq, Hash)]
 struct Shown(Outcome);
 
 impl fmt::Display for Shown {
@@ -310,7 +310,7 @@ fn run(rt: &(impl Print + Eprint + Files), i: usize, path: &[u8]) -> io::Result<
     }
 }
 
-// A path that is too long names no file.
+// A path that is too long names no file. The arguments are counted here, as the library's iterator over them takes memory of its own.
 fn main(rt: HostRuntime) -> io::Result<()> {
     let mut path = [0u8; 64];
     for i in 1..usize::MAX {
