@@ -39,7 +39,7 @@ fn is_day(year: u32, month: u32, day: u32) -> bool
 }
 
 // A number as its last two digits, the two before them and the rest: of a time its second, minute and hour.
-#[derive(Clone, Copy)]
+#[derive(Clone, Copy, Debug, PartialEq, Eq, Hash)]
 pub struct Fields {
     pub high: u32,
     pub middle: u32,
@@ -47,7 +47,7 @@ pub struct Fields {
 }
 
 // A number as so many times a power of ten, and a rest.
-#[derive(Clone, Copy)]
+#[derive(Clone, Copy, Debug, PartialEq, Eq, Hash)]
 struct Split {
     high: u32,
     low: u32,

@@ -1,11 +1,12 @@
 -- The reader's answer, one byte at a time, as its loop finds it.
-use mathlib.Core.Path.{◌≡◌, refl, sym, ap, ap₂, ◌∙◌, subst₂}
+use mathlib.Core.Path.{◌≡◌, refl, sym, ap, ap₂, ◌∙◌, subst, subst₂}
 use mathlib.Core.Bool.{Bool, true, false, cond, ◌&&◌}
 use mathlib.Core.List.{List, [], ◌∷◌}
 use Prim.Native.Nat.{ℕ, zero, suc, ◌+◌, ◌-◌, ◌*◌, ◌/◌, ◌%◌, ◌^◌, ◌≤◌, ◌<◌}
 use native.Mathlib.Nat.{pow-succ', mul_assoc, add-mul, add_assoc, mul-one}
 use native.Mathlib.Omega.{arith}
-use lib.ListN.{length, get_or}
+use lib.ListN.{length, get_or, take, drop, drop_of_length-le}
+use lib.Seq.{drop-cons}
 use lib.Dec.{eqb}
 use borrow.Author.Tests.{eq-eqb, ne_eqb, eqb-true, le-leb, lt-leb}
 use Rattle.decimal.proofs.Laws.{length_digits, value_digits, digits_value, value_lt}
@@ -13,7 +14,7 @@ use Rattle.decimal.specs.Digits.{digits, value, is_digit, all_digits}
 use Rattle.laws.proofs.Choose.{and_left, and_right}
 use Rattle.field.specs.Part.{part}
 use Rattle.decimal.specs.Read.{digits_read}
-use Rattle.field.proofs.Parts.{part_cons, length_part, length_part_in}
+use Rattle.field.proofs.Parts.{length_part, length_part_in}
 use Rattle.std.specs.declared.option.Option.{Option}
 use Rattle.std.specs.declared.option.Option.TheVariants.{Some, None}
 
@@ -49,32 +50,32 @@ read_start s at w h =
     rw (eq-eqb (length ds) w (length_part_in s at w h))
     (read_from_lem ds 0 ∙ ap (λ (m : ℕ). cond (all_digits ds) (Some m) None) (omega arith))
 
--- a turn
-pub read_turn : (s : List ℕ) (at i w acc : ℕ) → i < w → at + w ≤ length s
-    → read_from acc (part s (at + i) (w - i))
-    ≡ cond (is_digit (get_or s (at + i) 0)) (read_from (acc * 10 + (get_or s (at + i) 0 - 48)) (part s (at + (i + 1)) (w - (i + 1)))) None
-unfolding read_from
-read_turn s at i w acc h room =
-    let e : w - i ≡ suc (w - (i + 1)) = omega arith in
-    let f : at + i + 1 ≡ at + (i + 1) = omega arith in
-    rw (e, part_cons s (at + i) (w - (i + 1)) (omega arith), f)
+-- the bytes that the loop runs over are the field
+pub field_is : (s : List ℕ) (at w : ℕ) → take (at + w - at) (drop at s) ≡ part s at w
+unfolding part
+field_is s at w = let e : at + w - at ≡ w = omega arith in ap (λ (k : ℕ). take k (drop at s)) e
 
--- a byte that is no digit
-pub read_stop : (s : List ℕ) (at i w acc : ℕ) → i < w → at + w ≤ length s → is_digit (get_or s (at + i) 0) ≡ false
-    → read_from acc (part s (at + i) (w - i)) ≡ None
-read_stop s at i w acc h room no_digit = read_turn s at i w acc h room ∙ rw no_digit
+module _ {ds ps : List ℕ} (is : ds ≡ ps) (i acc : ℕ) where
+  -- a turn
+  read_turn : i < length ds → read_from acc (drop i ds) ≡ cond (is_digit (get_or ds i 0)) (read_from (acc * 10 + (get_or ds i 0 - 48)) (drop (suc i) ds)) None
+  unfolding read_from
+  read_turn h = rw (drop-cons ds i 0 h)
 
--- a digit
-pub read_on : (s : List ℕ) (at i w acc : ℕ) → i < w → at + w ≤ length s → is_digit (get_or s (at + i) 0) ≡ true
-    → read_from acc (part s (at + i) (w - i)) ≡ read_from (acc * 10 + (get_or s (at + i) 0 - 48)) (part s (at + (i + 1)) (w - (i + 1)))
-read_on s at i w acc h room digit = read_turn s at i w acc h room ∙ rw digit
+  -- a byte that is no digit
+  pub read_stop : i < length ds → is_digit (get_or ds i 0) ≡ false → read_from acc (drop i ps) ≡ None
+  read_stop h no_digit = subst (λ (l : List ℕ). read_from acc (drop i l) ≡ None) is (read_turn h ∙ rw no_digit)
 
--- where it ends
-pub read_end : (s : List ℕ) (at i w acc : ℕ) → i ≡ w → read_from acc (part s (at + i) (w - i)) ≡ Some acc
-unfolding read_from part
-read_end s at i w acc e =
-    let z : w - i ≡ 0 = omega arith in
-    rw z
+  -- a digit
+  pub read_on : i < length ds → is_digit (get_or ds i 0) ≡ true → read_from acc (drop i ps) ≡ read_from (acc * 10 + (get_or ds i 0 - 48)) (drop (i + 1) ps)
+  read_on h digit =
+      let e : suc i ≡ i + 1 = omega arith in
+      subst (λ (l : List ℕ). read_from acc (drop i l) ≡ read_from (acc * 10 + (get_or ds i 0 - 48)) (drop (i + 1) l)) is
+      (read_turn h ∙ rw digit (ap (λ (k : ℕ). read_from (acc * 10 + (get_or ds i 0 - 48)) (drop k ds)) e))
+
+  -- where it ends
+  pub read_end : length ds ≤ i → read_from acc (drop i ps) ≡ Some acc
+  unfolding read_from
+  read_end h = subst (λ (l : List ℕ). read_from acc (drop i l) ≡ Some acc) is (rw (drop_of_length-le ds h))
 
 -- too few bytes
 pub read_short : (s : List ℕ) (at w : ℕ) → 0 < w → length s < at + w → None ≡ digits_read w (part s at w)

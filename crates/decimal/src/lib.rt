@@ -13,16 +13,14 @@ fn ten_to(k: usize) -> u64
     ensures { result ≡ 10 ^ k }
 {
     let mut power: u64 = 1;
-    let mut i = 0;
-    while i < k {
-        power = power * 10;
-        i += 1;
+    for _i in 0..k {
+        power *= 10;
     }
     power
 }
 
 // How often a power goes into a number, and what is left of the number.
-#[derive(Clone, Copy)]
+#[derive(Clone, Copy, Debug, PartialEq, Eq, Hash)]
 struct Taken {
     times: u8,
     rest: u64,
@@ -61,7 +59,7 @@ pub fn put_digits(out: &mut [u8], at: usize, width: usize, n: u64) -> usize
     while 0 < left {
         left -= 1;
         let digit = take_out(rest, ten_to(left));
-        out[next] = 48 + digit.times;
+        out[next] = b'0' + digit.times;
         rest = digit.rest;
         next += 1;
     }
@@ -80,25 +78,16 @@ pub fn digits_at(s: &[u8], at: usize, width: usize) -> Option<u64>
         return None;
     }
     let mut acc: u64 = 0;
-    let mut i = 0;
-    while i < width {
-        let b = s[at + i];
-        if b < 48 {
+    for b in &s[at..at + width] {
+        if *b < b'0' {
             return None;
         }
-        if 57 < b {
+        if b'9' < *b {
             return None;
         }
-        acc = acc * 10 + wide(b - 48);
-        i += 1;
+        acc = acc * 10 + u64::from(*b - b'0');
     }
     Some(acc)
-}
-
-fn wide(x: u8) -> u64
-    ensures { result ≡ x }
-{
-    x as u64
 }
 
 // How many digits n has without leading zeros: so wide a field holds it, and put_digits and digits_at serve. It counts powers of ten and
@@ -110,7 +99,7 @@ pub fn plain_width(n: u64) -> usize
     let mut width = 1;
     let mut power: u64 = 10;
     while power <= n {
-        power = power * 10;
+        power *= 10;
         width += 1;
     }
     width

@@ -1,7 +1,7 @@
 -- What the reader answers, by what its callees found.
 use Prim.Native.Nat.{ℕ, suc, ◌+◌, ◌*◌, ◌≤◌, ◌<◌}
 use mathlib.Core.Path.{◌≡◌, sym, ◌∙◌, ap}
-use mathlib.Core.Bool.{Bool, true, false}
+use mathlib.Core.Bool.{true, false}
 use mathlib.Core.List.{List}
 use borrow.Author.Tests.{le-leb, lt-leb}
 use lib.ListN.{length}
@@ -13,7 +13,6 @@ use Rattle.delimited.specs.Lines.{is_delimiter}
 use Rattle.report.specs.Report.{Told}
 use Rattle.report.specs.Reading.{line_at, lines_from, judged, cells_from, tell, read_report}
 use Rattle.report.specs.Answer.{sized, filled}
-use Rattle.std.specs.declared.option.Option.{Option}
 use Rattle.std.specs.declared.option.Option.TheVariants.{Some, None}
 use Rattle.std.specs.declared.result.Result.{Result as Returned}
 use Rattle.std.specs.declared.result.Result.TheVariants.{Ok, Err}

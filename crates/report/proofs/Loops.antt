@@ -12,7 +12,6 @@ use Rattle.field.specs.Part.{put}
 use Rattle.field.proofs.Put.{put_nil, put_snoc, length_put}
 use Rattle.delimited.specs.Lines.{is_delimiter}
 use Rattle.delimited.specs.Separators.{separator_at, on_separator}
-use Rattle.delimited.specs.declared.Separator.{Separator}
 use Rattle.delimited.specs.declared.Separator.TheVariants as after
 use Rattle.delimited.proofs.Found.{next_field, next_line}
 use Rattle.delimited.proofs.Lines.{line_some}

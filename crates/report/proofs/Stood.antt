@@ -1,20 +1,20 @@
 -- Fields as code finds them: by the word at a place, or the ends of runs, as the callee answered them.
-use Prim.Native.Nat.{ℕ, ◌+◌, ◌-◌, ◌≤◌, ◌<◌}
-use mathlib.Core.Path.{◌≡◌, refl, sym, ◌∙◌, ap}
+use Prim.Native.Nat.{ℕ, ◌+◌, ◌-◌, ◌≤◌}
+use mathlib.Core.Path.{◌≡◌, refl, sym, ◌∙◌}
 use Rattle.std.specs.Bool.{then_some}
-use mathlib.Core.Bool.{Bool, true, false, cond, ◌&&◌, and-false}
+use mathlib.Core.Bool.{Bool, true, false, cond, ◌&&◌}
 use mathlib.Core.List.{List}
 use borrow.Author.Rules.{rules}
-use borrow.Author.Tests.{eq-eqb, ne_eqb, le-leb, lt-leb}
+use borrow.Author.Tests.{eq-eqb, ne_eqb}
 use lib.Dec.{eqb, ltb, leb}
 use lib.ListN.{length, get_or, get_or-eq_default}
 use Rattle.counts.specs.Limits.{text_bytes, number_digits}
 use Rattle.scan.specs.Kinds.{is_digit, is_letter}
 use Rattle.scan.specs.Run.{run_end}
-use Rattle.word.specs.Word.{WordRead, is_name, word_read}
+use Rattle.word.specs.Word.{is_name, word_read}
 use Rattle.word.specs.declared.Word.{Word}
 use Rattle.token.specs.Token.{content_end, is_text_at}
-use Rattle.report.specs.Reading.{name_of, name_at, figures_at, numeral_at, string_end, value_at, cell_at}
+use Rattle.report.specs.Reading.{name_at, figures_at, numeral_at, string_end, value_at, cell_at}
 use Rattle.std.specs.declared.option.Option.{Option}
 use Rattle.std.specs.declared.option.Option.TheVariants.{Some, None}
 use Rattle.report.proofs.Fields.{no_value_past}

@@ -5,7 +5,7 @@ use Rattle.counts.specs.Limits.{columns}
 use Rattle.scan.specs.Kinds.{is_letter}
 use Rattle.word.specs.Word.{word_read}
 use Rattle.word.specs.declared.Word.TheVariants.{Name as name}
-use Rattle.std.specs.declared.option.Option.TheVariants.{Some, None}
+use Rattle.std.specs.declared.option.Option.TheVariants.{Some}
 use Rattle.token.specs.Token.{WholeString}
 use Rattle.number.specs.Number.{Numeral}
 use Rattle.delimited.specs.Lines.{line, lines, Each, cells_of}

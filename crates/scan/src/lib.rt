@@ -70,7 +70,8 @@ fn is_comment_byte(b: u8) -> bool
     (b != b'\r') & (b != b'\n')
 }
 
-// The end of a run of the bytes that a test takes: one loop for all kinds.
+// The end of a run of the bytes that a test takes: one loop for all kinds. It begins where at may lie past the bytes, which position over a part
+// could not: so it is no plainer.
 fn run_end<F: Fn(u8) -> bool>(s: &[u8], at: usize, is_of: F) -> usize
     requires { F.IsAlwaysCallable is_of }
     ensures { (p : ℕ → Bool) → Tests F.post is_of p → Reached s.now at (run_end p s.now at) result }
@@ -142,7 +143,7 @@ fn comment_at(s: &[u8], i: usize) -> bool
     (byte_at(s, i) == b'/') & (byte_at(s, i + 1) == b'/')
 }
 
-// The place of the next token, or the end: past separators and comments.
+// The place of the next token, or the end: past separators and comments. The place does not go on by one: a comment is passed at once.
 pub fn blank_end(s: &[u8], at: usize) -> usize
     ensures { Reached s.now at (blank_end false s.now at) result }
 {

@@ -1,9 +1,10 @@
 use mathlib.Core.Path.{◌≡◌, sym, ◌∙◌}
 use Prim.Native.Nat.{ℕ, ◌+◌, ◌-◌, ◌*◌, ◌^◌, ◌≤◌, ◌<◌}
 use native.Mathlib.Omega.{arith}
-use lib.ListN.{get_or}
+use mathlib.Core.List.{List}
+use lib.ListN.{length, take, drop, length-take}
 use Rattle.decimal.proofs.Laws.{tenfold, ten_le}
-use Rattle.decimal.proofs.ReadLaws.{read_start, read_end, read_short, read_stop, read_on, low_byte, high_byte, digit_byte}
+use Rattle.decimal.proofs.ReadLaws.{read_start, read_end, read_short, field_is, read_stop, read_on, low_byte, high_byte, digit_byte}
 use Rattle.decimal.proofs.digits_at.Goals as goal
 
 -- a number of fewer than sixteen digits has room for one more
@@ -11,6 +12,9 @@ room : (acc i w : ℕ) → acc < 10 ^ i → i < w → w ≤ 16 → acc < 10 ^ 15
 room acc i w h hi hw =
     let le : i ≤ 15 = omega arith in
     omega (arith, ten_le i 15 le)
+
+in_field : (s : List ℕ) (at w : ℕ) → length (take (at + w - at) (drop at s)) ≤ w
+in_field s at w = omega (arith, length-take (at + w - at) (drop at s))
 
 -- one digit more
 more : (acc i x : ℕ) → acc < 10 ^ i → x < 10 → acc * 10 + x < 10 ^ (i + 1)
@@ -22,51 +26,42 @@ returns-then-s-at c = read_short _ _ _ (omega arith) (omega arith)
 pub returns-then-s-at-2 : goal.returns-then-s-at-2
 returns-then-s-at-2 c = read_short _ _ _ (omega arith) (omega arith)
 
-pub loop-i-init : goal.loop-i-init
-loop-i-init c =
-    let a = c.args in
-    let e : a.at + 0 ≡ a.at = omega arith in
-    let f : a.width - 0 ≡ a.width = omega arith in
-    (omega arith, omega arith, rw (e, f) (read_start a.s.now a.at a.width (omega arith)))
+pub loop-b-init : goal.loop-b-init
+loop-b-init c = (omega arith, read_start c.args.s.now c.args.at c.args.width (omega arith))
 
 pub returns-then-b-lt48 : goal.returns-then-b-lt48
 returns-then-b-lt48 c =
-    let l = c.loop-i in
+    let l = c.loop-b in
     let a = c.args in
-    sym (read_stop a.s.now a.at l.i a.width l.acc (omega arith) (omega arith) (low_byte _ c.if-b-lt48.true)) ∙ l.invariant.2
+    sym (read_stop (field_is a.s.now a.at a.width) l.b-index l.acc (omega arith) (low_byte _ c.if-b-lt48.true)) ∙ l.invariant.1
 
 pub returns-then-b-gt57 : goal.returns-then-b-gt57
 returns-then-b-gt57 c =
-    let l = c.loop-i in
+    let l = c.loop-b in
     let a = c.args in
-    sym (read_stop a.s.now a.at l.i a.width l.acc (omega arith) (omega arith) (high_byte _ c.if-b-gt57.true)) ∙ l.invariant.2
+    sym (read_stop (field_is a.s.now a.at a.width) l.b-index l.acc (omega arith) (high_byte _ c.if-b-gt57.true)) ∙ l.invariant.1
 
 pub overflow_mul-acc : goal.overflow_mul-acc
 overflow_mul-acc c =
-    let l = c.loop-i in
-    omega (arith, room l.acc l.i c.args.width l.invariant.1 (omega arith) (omega arith))
+    let l = c.loop-b in
+    omega (arith, room l.acc l.b-index c.args.width l.invariant.0 (omega (arith, in_field c.args.s.now c.args.at c.args.width)) (omega arith))
 
 pub overflow_add-acc : goal.overflow_add-acc
 overflow_add-acc c =
-    let l = c.loop-i in
-    omega (
-      arith,
-      room l.acc l.i c.args.width l.invariant.1 (omega arith)
-          (omega arith),
-    )
+    let l = c.loop-b in
+    omega (arith, room l.acc l.b-index c.args.width l.invariant.0 (omega (arith, in_field c.args.s.now c.args.at c.args.width)) (omega arith))
 
-pub loop-i-preserved : goal.loop-i-preserved
-loop-i-preserved c =
-    let l = c.loop-i in
+pub loop-b-preserved : goal.loop-b-preserved
+loop-b-preserved c =
+    let l = c.loop-b in
     let a = c.args in
-    let digit = digit_byte (get_or a.s.now (a.at + l.i) 0) (omega arith) (omega arith) in (
-      omega arith,
-      more l.acc l.i c.wide.result l.invariant.1 (omega arith),
-      rw c.wide.ensures (sym (read_on a.s.now a.at l.i a.width l.acc (omega arith) (omega arith) digit)) ∙ l.invariant.2,
+    let digit = digit_byte _ c.if-b-lt48.false (omega arith) in (
+      more l.acc l.b-index c.from.result l.invariant.0 (omega (arith, c.from.ensures)),
+      rw c.from.ensures (sym (read_on (field_is a.s.now a.at a.width) l.b-index l.acc (omega arith) digit)) ∙ l.invariant.1,
     )
 
 pub returns : goal.returns
 returns c =
-    let l = c.loop-i in
+    let l = c.loop-b in
     let a = c.args in
-    sym (read_end a.s.now a.at l.i a.width l.acc (omega arith)) ∙ l.invariant.2
+    sym (read_end (field_is a.s.now a.at a.width) l.b-index l.acc (omega arith)) ∙ l.invariant.1

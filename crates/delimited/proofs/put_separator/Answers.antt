@@ -1,5 +1,4 @@
 -- `delimited::put_separator` meets its contract.
-use native.Mathlib.Omega.{arith}
 use Rattle.field.proofs.Put.{wrote_byte}
 use Rattle.delimited.proofs.put_separator.Goals as goal
 

@@ -1,5 +1,5 @@
 -- `report::read_report` meets its contract.
-use mathlib.Core.Path.{refl, sym, ◌∙◌}
+use mathlib.Core.Path.{refl, sym}
 use native.Mathlib.Omega.{arith}
 use Rattle.delimited.proofs.Lines.{one_of_four}
 use Rattle.counts.specs.Refusals.{too_little_room}
