@@ -53,17 +53,13 @@ pub fn put_digits(out: &mut [u8], at: usize, width: usize, n: u64) -> usize
     requires { (width ≤ 16) × (n < 10 ^ width) × (at + width ≤ length out.old) }
     ensures { Wrote out.old at (digits width n) out.new result }
 {
-    let mut left = width;
     let mut rest = n;
-    let mut next = at;
-    while 0 < left {
-        left -= 1;
-        let digit = take_out(rest, ten_to(left));
-        out[next] = b'0' + digit.times;
+    for i in 0..width {
+        let digit = take_out(rest, ten_to(width - i - 1));
+        out[at + i] = b'0' + digit.times;
         rest = digit.rest;
-        next += 1;
     }
-    next
+    at + width
 }
 
 // Reads the width digits from at on.

@@ -126,11 +126,8 @@ pub fn is_all_text(s: &[u8]) -> bool
     ensures { result ≡ eqb (run_end is_text_byte s.now 0) (length s.now) }
 {
     let mut all = true;
-    let mut i = 0;
-    while i < s.len() {
-        let b = s[i];
-        all = all & ((b' ' <= b) & (b <= b'!') | (b'#' <= b) & (b <= 254));
-        i += 1;
+    for b in s {
+        all &= (b' ' <= *b) & (*b <= b'!') | (b'#' <= *b) & (*b <= 254);
     }
     all
 }

@@ -48,46 +48,52 @@ unfolding digits
 done out next zero rest h = put_nil out next
 done out next (suc k) rest h = absurd (omega arith)
 
-pub loop-left-init : goal.loop-left-init
-loop-left-init c = (omega arith, omega arith, c.requires.1, refl, refl)
+pub loop-i-init : goal.loop-i-init
+loop-i-init c =
+    let a = c.args in
+    let e : a.width - 0 ≡ a.width = omega arith in
+    let f : a.at + 0 ≡ a.at = omega arith in
+    rw (e, f) (c.requires.1, refl, refl)
 
 pub take_out-digit-requires : goal.take_out-digit-requires
 take_out-digit-requires c =
-    let l = c.loop-left in
-    let power = c.ten_to in (
-      below_ten l.left l.rest power.result c.loop-left-test.true l.invariant.2 power.ensures,
-      sixteenth l.left power.result (omega arith) power.ensures,
-    )
+    let l = c.loop-i in
+    let left = c.args.width - l.i in
+    let power = c.ten_to in
+    (below_ten left l.rest power.result (omega arith) l.invariant.0 power.ensures, sixteenth left power.result (omega arith) power.ensures)
 
 pub overflow_add-out : goal.overflow_add-out
 overflow_add-out c =
-    let l = c.loop-left in
+    let l = c.loop-i in
+    let left = c.args.width - l.i in
     let power = c.ten_to in
     let digit = c.take_out-digit in
-    let less = below_ten l.left l.rest power.result c.loop-left-test.true l.invariant.2 power.ensures in
+    let less = below_ten left l.rest power.result (omega arith) l.invariant.0 power.ensures in
     omega (arith, one_digit l.rest power.result digit.result.times less digit.ensures.0)
 
-pub loop-left-preserved : goal.loop-left-preserved
-loop-left-preserved c =
-    let l = c.loop-left in
-    let some = c.loop-left-test.true in
+pub loop-i-preserved : goal.loop-i-preserved
+loop-i-preserved c =
+    let l = c.loop-i in
+    let a = c.args in
+    let left = a.width - l.i in
     let power = c.ten_to in
-    let digit = c.take_out-digit in (
-      omega arith,
-      omega arith,
-      fits l.left l.rest power.result digit.result.rest power.ensures digit.ensures.1,
-      simp length-set l.invariant.3,
-      turn l.out l.next l.left l.rest power.result digit.result.times digit.result.rest some l.invariant.2 power.ensures
+    let digit = c.take_out-digit in
+    let e : a.width - (l.i + 1) ≡ left - 1 = omega arith in
+    let f : a.at + (l.i + 1) ≡ a.at + l.i + 1 = omega arith in
+    rw (e, f) (
+      fits left l.rest power.result digit.result.rest power.ensures digit.ensures.1,
+      simp length-set l.invariant.1,
+      turn l.out (a.at + l.i) left l.rest power.result digit.result.times digit.result.rest (omega arith) l.invariant.0 power.ensures
           digit.ensures.0 digit.ensures.1
-          ∙ l.invariant.4,
+          ∙ l.invariant.2,
     )
 
 pub returns : goal.returns
 returns c =
-    let l = c.loop-left in
+    let l = c.loop-i in
     let a = c.args in
-    let end : a.at + a.width ≡ l.next = omega arith in
+    let next : l.i ≡ a.width = omega arith in
     record {
-      next = sym end ∙ ap (λ (k : ℕ). a.at + k) (sym (length_digits a.width a.n));
-      bytes = sym (done l.out l.next l.left l.rest c.loop-left-test.false) ∙ l.invariant.4;
+      next = ap (λ (k : ℕ). a.at + k) (sym (length_digits a.width a.n));
+      bytes = sym (done l.out (a.at + l.i) (a.width - l.i) l.rest (omega (arith, next))) ∙ l.invariant.2;
     }
