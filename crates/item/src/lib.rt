@@ -64,24 +64,26 @@ pub struct Item {
 }
 
 // The class of a word.
-fn word_class(word: Word) -> Class
-    ensures { result ≡ code_of (word_class word) }
-{
-    match word {
-        Word::Job => Class::Job,
-        Word::Response => Class::Response,
-        Word::Upload => Class::Upload,
-        Word::Download => Class::Download,
-        Word::GetInfo => Class::GetInfo,
-        Word::Abort => Class::Abort,
-        Word::Report => Class::Report,
-        Word::Event => Class::Event,
-        Word::Start => Class::Start,
-        Word::Active => Class::Active,
-        Word::Immediate => Class::Immediate,
-        Word::Other => Class::Reserved,
-        Word::Name => Class::Name,
-        Word::TimeGe => Class::TimeGe,
+impl From<Word> for Class {
+    ghost from_gives = { λ word class. class ≡ code_of (word_class word) };
+
+    fn from(word: Word) -> Self {
+        match word {
+            Word::Job => Class::Job,
+            Word::Response => Class::Response,
+            Word::Upload => Class::Upload,
+            Word::Download => Class::Download,
+            Word::GetInfo => Class::GetInfo,
+            Word::Abort => Class::Abort,
+            Word::Report => Class::Report,
+            Word::Event => Class::Event,
+            Word::Start => Class::Start,
+            Word::Active => Class::Active,
+            Word::Immediate => Class::Immediate,
+            Word::Other => Class::Reserved,
+            Word::Name => Class::Name,
+            Word::TimeGe => Class::TimeGe,
+        }
     }
 }
 
@@ -202,7 +204,7 @@ pub fn next_item(s: &[u8], base: usize, at: usize) -> Item
     match next_token(s, at - base) {
         Token::End(p) => item_of(base, Class::End, p, p, 0),
         Token::NoToken { why, place } => item_of(base, Class::NoToken(why), place, place, 0),
-        Token::Word { start, end, word } => item_of(base, word_class(word), start, end, 0),
+        Token::Word { start, end, word } => item_of(base, word.into(), start, end, 0),
         Token::Number { start, end } => number_item(s, base, start, end),
         Token::Time { start, end } => time_item(s, base, start, end),
         Token::Text { start, end } => item_of(base, Class::Text, start, end, 0),

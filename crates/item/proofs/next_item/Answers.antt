@@ -58,7 +58,7 @@ pub returns-in-Word : goal.returns-in-Word
 unfolding numbered
 returns-in-Word c =
     stood _ _ _ c.requires _ _ c.next_token.ensures
-    c.in-Word.is _ (rw (← c.word_class.ensures) c.item_of-in-Word.ensures)
+    c.in-Word.is _ (rw (← c.into.ensures) c.item_of-in-Word.ensures)
 
 pub returns-in-Number : goal.returns-in-Number
 unfolding numbered
