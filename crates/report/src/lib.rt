@@ -93,7 +93,7 @@ fn cell_at(s: &[u8], i: usize) -> Option<usize>
 }
 
 // The bytes of a file, with what separates its fields.
-#[derive(Clone, Copy)]
+#[derive(Clone, Copy, Debug, PartialEq, Eq, Hash)]
 struct File<'a> {
     bytes: &'a [u8],
     delimiter: Delimiter,
