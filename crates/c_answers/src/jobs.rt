@@ -1,4 +1,4 @@
-// Statements of a job file.
+// Statements of a job file. The array of numbers is the header's.
 ghost use Rattle.job.specs.Statement.{paper_statement_at};
 ghost use Rattle.c_answers.specs.Returned.{GivesStatement};
 

@@ -18,7 +18,7 @@ use counts::Refusal;
 // The 56 bits above a refusal's number hold the places up to this.
 const PLACE_MOST: u64 = 72057594037927935;
 
-// What is returned for a refusal.
+// What is returned for a refusal: one number, as the header takes it apart.
 fn returned(refusal: Refusal) -> u64
     ensures { result ≡ returned {A = ℕ} (refused_as refusal) }
 {

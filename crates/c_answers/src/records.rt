@@ -1,4 +1,4 @@
-// Response records.
+// Response records. The array of numbers is the header's.
 ghost use Rattle.record_read.specs.Reading.{paper_record_read};
 ghost use Rattle.c_numbers.specs.Records.{record_numbers};
 ghost use Rattle.c_answers.specs.Returned.{GivesNumbers};

@@ -1,4 +1,4 @@
-// Whether a start clause may be missing.
+// Whether a start clause may be missing: C has a bool for it.
 ghost use Rattle.std.specs.Prelude.{◌≡◌};
 ghost use Rattle.c_numbers.specs.Clauses.{clause_given};
 

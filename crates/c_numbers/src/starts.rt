@@ -14,7 +14,8 @@ use start::Present;
 use statement::{Condition, Operand, Part, Start};
 use token::Operator;
 
-// A number that no job file may have, as it has no digit before the point: what is none of the header's kinds gets it.
+// A number that no job file may have, as it has no digit before the point: what is none of the header's kinds gets it. An error in its place would
+// go before the refusals that the exported call gives first.
 const UNPERMITTED: Number = Number {
     mantissa: 0,
     scale: NUMBER_DIGITS as u32,

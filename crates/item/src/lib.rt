@@ -3,7 +3,7 @@
 
 ghost use Rattle.std.specs.Prelude.{◌≡◌, ◌+◌, ◌-◌, ◌≤◌, ◌<◌, length};
 ghost use Rattle.counts.specs.Limits.{file_bytes};
-ghost use Rattle.counts.specs.Refusals.{number_of as reason_number};
+ghost use Rattle.counts.specs.Refusals.{number_of as reason_number, refusal};
 ghost use Rattle.field.specs.Part.{part};
 ghost use Rattle.token.specs.Token.{Short};
 ghost use Rattle.number.specs.Number.{number_of};
@@ -13,7 +13,7 @@ ghost use Rattle.grammar.specs.Grammar.Class.{operator as operatorClass};
 ghost use Rattle.item.specs.Items.{code_of, code_no, refusal_no, zero, made_of, made, Seen, Stood};
 
 use calendar::{is_real_date, is_real_time};
-use counts::Reason;
+use counts::{Reason, Refusal};
 use decimal::digits_at;
 use number::{Number, number_at};
 use token::{Operator, Token, Why, next_token};
@@ -61,6 +61,18 @@ pub struct Item {
     pub value: u32,
     pub number: Number,
     pub operator: Operator,
+}
+
+impl Item {
+    // Its refusal, at its place.
+    pub fn refused(self, reason: Reason) -> Refusal
+        ensures { result ≡ refusal reason self.place }
+    {
+        Refusal {
+            reason,
+            place: self.place,
+        }
+    }
 }
 
 // The class of a word.

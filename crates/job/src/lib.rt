@@ -3,7 +3,6 @@
 
 ghost use Rattle.std.specs.Prelude.{◌≡◌, ◌+◌, ◌≤◌, length};
 ghost use Rattle.counts.specs.Limits.{file_bytes, statements};
-ghost use Rattle.counts.specs.Refusals.{refusal};
 ghost use Rattle.counts.specs.Result.{counted};
 ghost use Rattle.token.specs.Token.{is_text_at};
 ghost use Rattle.statement.specs.Statement.{paper_read};
@@ -39,15 +38,6 @@ pub struct StatementsFound {
     pub then: Option<usize>,
 }
 
-fn refuse(reason: Reason, t: Item) -> Refusal
-    ensures { result ≡ refusal reason t.place }
-{
-    Refusal {
-        reason,
-        place: t.place,
-    }
-}
-
 // The first statement of a file, which begins with t: it is JOB.
 fn first_read(file: &[u8], clause: StartClause, t: Item) -> Result<(Statement, usize), Refusal>
     requires { length file.now ≤ file_bytes }
@@ -55,7 +45,7 @@ fn first_read(file: &[u8], clause: StartClause, t: Item) -> Result<(Statement, u
 {
     match t.class {
         Class::Job => statement_of(file, 0, clause, t),
-        _ => Err(refuse(refusal_reason(t.class), t)),
+        _ => Err(t.refused(refusal_reason(t.class))),
     }
 }
 
@@ -66,13 +56,13 @@ fn step_of(file: &[u8], clause: StartClause, k: usize, t: Item) -> Result<Option
 {
     match t.class {
         Class::End => Ok(None),
-        Class::NoToken(_) => Err(refuse(refusal_reason(t.class), t)),
+        Class::NoToken(_) => Err(t.refused(refusal_reason(t.class))),
         _ => {
             if k == STATEMENTS as usize {
-                return Err(refuse(Reason::TooManyStatements, t));
+                return Err(t.refused(Reason::TooManyStatements));
             }
             match t.class {
-                Class::Job => Err(refuse(Reason::Unexpected, t)),
+                Class::Job => Err(t.refused(Reason::Unexpected)),
                 _ => {
                     let (_, next) = statement_of(file, 0, clause, t)?;
                     Ok(Some(next))

@@ -1,4 +1,4 @@
-// What a C program calls: the archive's functions. Each hands on to the one of its name in `raddlebrush` and says what that says.
+// What a C program calls: the archive's functions. Each hands on to the one of its name in `raddlebrush` and says what that says: an archive exports functions of its own, with contracts of their own.
 #![tactic(auto)]
 
 pub mod jobs;

@@ -66,6 +66,8 @@ fn main(rt: HostRuntime) -> io::Result<()> {
     let mut input = rt.reader();
     let mut file = [0u8; ROOM];
     let n = io::copy(&mut input.by_ref().take(ROOM as u64), &mut &mut file[..])?;
-    io::copy(&mut input, &mut io::sink())?;
+    if n == ROOM as u64 {
+        io::copy(&mut input, &mut io::sink())?;
+    }
     print_report(&rt, &file[..ROOM.min(n as usize)], delimiter(&rt))
 }

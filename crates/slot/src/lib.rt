@@ -206,13 +206,24 @@ pub struct Slot {
     pub entry: Answer,
 }
 
+// The core, by value.
+fn with_answer(slot: Slot, a: Answer) -> Slot
+    requires { slot.head.answered < commands }
+    ensures { result ≡ with_entry slot a }
+{
+    let head = Head {
+        answered: slot.head.answered + 1,
+        ..slot.head
+    };
+    Slot { head, entry: a }
+}
+
 // One slot lent mutably: the answer is stored in it.
 fn store_answer(slot: &mut Slot, a: Answer)
     requires { slot.old.head.answered < commands }
     ensures { slot.new ≡ with_entry slot.old a }
 {
-    slot.head.answered += 1;
-    slot.entry = a;
+    *slot = with_answer(*slot, a);
 }
 
 // Nothing is stored yet, and no entry is read: what stands in the bytes is overwritten.

@@ -1,14 +1,11 @@
-// The statements of a job file: one function to a point of the grammar, each from the place where its first token is looked for. The bytes, their base
-// and that place stay three parameters: a struct with `Seen` as its invariant, which has a lifetime, cannot be `Copy`, so each contract would have to
-// speak of its entry and its exit.
+// The statements of a job file: one function to a point of the grammar, each from the place where its first token is looked for.
 #![tactic(auto)]
 
 ghost use Rattle.std.specs.Prelude.{◌≡◌};
-ghost use Rattle.counts.specs.Refusals.{number_of};
 ghost use Rattle.counts.specs.Result.{refused_as};
 ghost use Rattle.item.specs.Items.{code_no, Seen};
 ghost use Rattle.grammar.specs.Grammar.Point.{ending, job_name, job_response, job_file, move_file, move_source, move_start, start_kind, start_time, start_date, start_operator, start_value, info_file, abort_kind, abort_name};
-ghost use Rattle.statement.specs.Statement.{refuse, unexpected_at, part_of, condition, transferred, transfer, is_number_no, paper_read, read_from, statement_of};
+ghost use Rattle.statement.specs.Statement.{unexpected_at, part_of, condition, transferred, transfer, is_number_no, paper_read, read_from, statement_of};
 
 use counts::{Reason, Refusal};
 use grammar::StartClause;
@@ -93,20 +90,11 @@ pub struct Transfer {
     pub source: Source,
 }
 
-fn refuse(reason: Reason, t: Item) -> Refusal
-    ensures { refused_as result ≡ refuse (number_of reason) t }
-{
-    Refusal {
-        reason,
-        place: t.place,
-    }
-}
-
 // What may not stand: the end of the file, no token, or a token.
 fn unexpected(t: Item) -> Refusal
     ensures { refused_as result ≡ unexpected_at t }
 {
-    refuse(refusal_reason(t.class), t)
+    t.refused(refusal_reason(t.class))
 }
 
 fn part_of(t: Item) -> Part
@@ -284,7 +272,7 @@ fn start_date(
             ending(s, base, t.next, transferred(m, start))
         }
         Class::Semicolon => Ok((transferred(m, Start::At(clock, None)), t.next)),
-        Class::UnrealDate => Err(refuse(Reason::NotReal, t)),
+        Class::UnrealDate => Err(t.refused(Reason::NotReal)),
         _ => Err(unexpected(t)),
     }
 }
@@ -297,7 +285,7 @@ fn start_time(s: &[u8], base: usize, at: usize, m: Transfer) -> Result<(Statemen
     let t = next_item(s, base, at);
     match t.class {
         Class::Time => start_date(s, base, t.next, m, t.value),
-        Class::UnrealTime => Err(refuse(Reason::NotReal, t)),
+        Class::UnrealTime => Err(t.refused(Reason::NotReal)),
         _ => Err(unexpected(t)),
     }
 }

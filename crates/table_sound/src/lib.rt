@@ -83,6 +83,7 @@ fn sessions_are_sound(b: &[u8], t: Table) -> bool
     requires { (length b.now ≡ table_bytes) × (t ≡ table_of b.now) }
     ensures { result ≡ (all sessions (λ s. slot_sound (abs b.now) s (slot_of b.now s)) && hand_sound (abs b.now) (hand_of (hand_number t.hand))) }
 {
+    // The tickets so far, in an array, as nothing here takes memory of its own.
     let mut seen = [0u32; Table::SESSIONS as usize];
     let mut waits = t.hand.is_none();
     for s in 0..Table::SESSIONS {

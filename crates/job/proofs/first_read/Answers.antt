@@ -15,5 +15,5 @@ returns-in-Job c =
 pub returns-in_default : goal.returns-in_default
 returns-in_default c =
     let a = c.args in
-    rw (c.refuse.ensures, c.refusal_reason.ensures)
+    rw (c.refused.ensures, c.refusal_reason.ensures)
     (first_is_other a.clause a.file.now a.t (λ e. c.in_default.not-Job (same_code a.t.class Job e)))

@@ -10,7 +10,7 @@ returns-in-End c = rw (← later c.args.clause c.args.file.now c.args.t c.args.k
 
 pub returns-in-NoToken : goal.returns-in-NoToken
 returns-in-NoToken c =
-    rw (c.refuse.ensures, c.refusal_reason.ensures) (at_none c.args.clause c.args.file.now c.args.t c.args.k c.in-NoToken.field-0 c.in-NoToken.is)
+    rw (c.refused.ensures, c.refusal_reason.ensures) (at_none c.args.clause c.args.file.now c.args.t c.args.k c.in-NoToken.field-0 c.in-NoToken.is)
 
 pub returns-then-k : goal.returns-then-k
 returns-then-k c =
