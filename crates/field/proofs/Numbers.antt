@@ -1,10 +1,10 @@
 -- Laws of `get_w` and `put_w`, once over the width: the length stays, what stands apart stays, what was written is read.
-use Prim.Native.Nat.{ℕ, zero, suc, ◌+◌, ◌*◌, ◌/◌, ◌%◌, ◌≤◌, ◌<◌, ◌^◌}
+use Prim.Native.Nat.{ℕ, zero, suc, ◌+◌, ◌/◌, ◌%◌, ◌≤◌, ◌<◌, ◌^◌}
 use mathlib.Core.Path.{◌≡◌, refl, ◌∙◌}
 use mathlib.Core.List.{List}
 use mathlib.Core.Logic.{◌⊎◌, inl, inr, ⊎_elim}
 use native.Mathlib.Omega.{arith}
-use native.Mathlib.Nat.{add-zero, pow-succ', one-le-pow}
+use native.Mathlib.Nat.{pow-succ', one-le-pow}
 use lib.ListN.{get_or, set, length, length-set}
 use lib.Seq.{get_or-set_same, get_or-set_other}
 use lib.Arith.{mod-mul}
@@ -52,9 +52,3 @@ get_w_put_w (suc k) b at v h =
     ∙ get_w_put_w k b at v (omega arith)
     in
     rw (e, f, pow-succ', mod-mul v {m = 256} {c = 256 ^ k} (omega arith) (one-le-pow k 256 (omega arith)))
-
--- four bytes, as code reads them
-pub four : (b : List ℕ) (at : ℕ) {r0 r1 r2 r3 : ℕ} → r0 ≡ get_or b at 0 → r1 ≡ get_or b (at + 1) 0 → r2 ≡ get_or b (at + 2) 0 → r3 ≡ get_or b (at + 3) 0
-    → r0 + 256 * r1 + 65536 * r2 + 16777216 * r3 ≡ get_w 4 b at
-unfolding get_w
-four b at e0 e1 e2 e3 = simp add-zero (omega arith)

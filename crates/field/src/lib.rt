@@ -1,7 +1,7 @@
 // Bytes at a place of lent memory: read, compared, written; and numbers at a place, low byte first.
 #![tactic(auto)]
 
-ghost use Rattle.std.specs.Prelude.{◌≡◌, ◌+◌, ◌≤◌, ◌<◌, length, get_or};
+ghost use Rattle.std.specs.Prelude.{◌≡◌, ◌+◌, ◌≤◌, length, get_or};
 ghost use Rattle.field.specs.Part.{Wrote};
 ghost use Rattle.field.specs.Bytes.{has_at};
 ghost use Rattle.field.specs.Number.{get_w, put_w};
@@ -32,30 +32,16 @@ pub fn put_bytes(out: &mut [u8], at: usize, src: &[u8]) -> usize
     at + src.len()
 }
 
-// One byte, as a wide number.
-fn wide_at(b: &[u8], at: usize) -> u32
-    requires { at + 1 ≤ length b.now }
-    ensures { (result ≡ get_or b.now at 0) × (result < 256) }
-{
-    u32::from(b[at])
-}
-
 pub fn get32(b: &[u8], at: usize) -> u32
     requires { at + 4 ≤ length b.now }
     ensures { result ≡ get_w 4 b.now at }
 {
-    wide_at(b, at)
-        + 256 * wide_at(b, at + 1)
-        + 65536 * wide_at(b, at + 2)
-        + 16777216 * wide_at(b, at + 3)
+    u32::from_le_bytes([b[at], b[at + 1], b[at + 2], b[at + 3]])
 }
 
 pub fn put32(b: &mut [u8], at: usize, v: u32)
     requires { at + 4 ≤ length b.old }
     ensures { b.new ≡ put_w 4 b.old at v }
 {
-    b[at] = (v & 255) as u8;
-    b[at + 1] = (v >> 8 & 255) as u8;
-    b[at + 2] = (v >> 16 & 255) as u8;
-    b[at + 3] = (v >> 24) as u8;
+    b[at..at + 4].copy_from_slice(&v.to_le_bytes());
 }

@@ -1,8 +1,9 @@
 -- `field::get32` meets its contract.
-use Rattle.field.proofs.Numbers.{four}
+use native.Mathlib.Omega.{arith}
+use native.Mathlib.Nat.{add-zero}
+use Rattle.field.specs.Number.{get_w}
 use Rattle.field.proofs.get32.Goals as goal
 
 pub returns : goal.returns
-returns c =
-    four _ _ c.wide_at.ensures.0 c.wide_at-2.ensures.0 c.wide_at-3.ensures.0
-    c.wide_at-4.ensures.0
+unfolding get_w
+returns c = simp add-zero (omega (arith, c.from_le_bytes.ensures))

@@ -1,42 +1,26 @@
 -- `field::put32` meets its contract.
-use Prim.Native.Nat.{ℕ, ◌/◌, ◌%◌, ◌^◌, ◌<◌}
-use mathlib.Core.Path.{◌≡◌}
-use lib.Bits.{bit_and, and_mask, mask_lt}
-use Rattle.field.specs.Number.{put_w}
+use Prim.Native.Nat.{ℕ, ◌+◌, ◌/◌, ◌%◌}
+use mathlib.Core.Path.{◌≡◌, refl, ap, ◌∙◌}
+use mathlib.Core.List.{List, [], ◌∷◌}
 use native.Mathlib.Omega.{arith}
 use native.Mathlib.Nat.{add-zero, div-one}
-use lib.ListN.{length-set}
-use borrow.Author.Rules.{rules}
+use lib.ListN.{length}
+use Rattle.field.specs.Number.{put_w}
+use Rattle.field.specs.Part.{put}
+use Rattle.field.proofs.Put.{copied, put_cons, put_nil}
 use Rattle.field.proofs.put32.Goals as goal
 
--- a mask of eight ones takes the remainder by 256
-low_byte : (n : ℕ) → bit_and n 255 ≡ n % 256
-low_byte n = and_mask n 8
-
-is_byte : (n : ℕ) → bit_and n 255 < 256
-is_byte n = mask_lt n 8
-
-pub overflow_cast-b : goal.overflow_cast-b
-overflow_cast-b c = search (rules, is_byte)
-
-pub overflow_cast-b-2 : goal.overflow_cast-b-2
-overflow_cast-b-2 c = search (rules, is_byte)
-
-pub bounds-b-at-2 : goal.bounds-b-at-2
-bounds-b-at-2 c = simp length-set (omega arith)
-
-pub overflow_cast-b-3 : goal.overflow_cast-b-3
-overflow_cast-b-3 c = search (rules, is_byte)
-
-pub bounds-b-at-3 : goal.bounds-b-at-3
-bounds-b-at-3 c = simp length-set (omega arith)
-
-pub bounds-b-at-4 : goal.bounds-b-at-4
-bounds-b-at-4 c = simp length-set (omega arith)
+-- the four bytes, one after the other
+in_turn : (d : List ℕ) (at v : ℕ) → put d at (v % 256 ∷ v / 256 % 256 ∷ v / 65536 % 256 ∷ v / 16777216 % 256 ∷ []) ≡ put_w 4 d at v
+unfolding put_w
+in_turn d at v =
+    let two : at + 1 + 1 ≡ at + 2 = omega arith in
+    let three : at + 2 + 1 ≡ at + 3 = omega arith in
+    simp (put_cons, put_nil, add-zero, div-one, two, three) refl
 
 pub returns : goal.returns
-unfolding put_w
 returns c =
-    let v = c.args.v in
-    let high : v / 256 ^ 3 % 256 ≡ v / 2 ^ 24 = omega arith in
-    simp (add-zero, div-one, low_byte, high)
+    let four : length c.to_le_bytes.result ≡ 4 = ap length c.to_le_bytes.ensures in
+    copied _ _ _ _ _ c.copy_from_slice.ensures.after (omega arith) (omega arith)
+    ∙ ap (λ (xs : List ℕ). put c.args.b.now c.args.at xs) c.to_le_bytes.ensures
+    ∙ in_turn _ _ _
