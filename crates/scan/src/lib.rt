@@ -12,13 +12,13 @@ use field::byte_at;
 fn is_separator(b: u8) -> bool
     ensures { result ≡ is_separator b }
 {
-    (b == b' ') | (b == b'\t') | (b == b'\r') | (b == b'\n')
+    matches!(b, b' ' | b'\t' | b'\r' | b'\n')
 }
 
 pub fn is_digit(b: u8) -> bool
     ensures { result ≡ is_digit b }
 {
-    (b'0' <= b) & (b <= b'9')
+    b.is_ascii_digit()
 }
 
 // Whether a digit stands at i.
@@ -31,7 +31,7 @@ pub fn digit_at(s: &[u8], i: usize) -> bool
 pub fn is_letter(b: u8) -> bool
     ensures { result ≡ is_letter b }
 {
-    (b'A' <= b) & (b <= b'Z') | (b'a' <= b) & (b <= b'z')
+    b.is_ascii_alphabetic()
 }
 
 fn is_word_byte(b: u8) -> bool
