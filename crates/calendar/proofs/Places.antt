@@ -2,8 +2,9 @@
 -- its share, and what that adds up to stays below one unit: so a test of the part is a test of the remainder.
 use Prim.Native.Nat.{ℕ, suc, ◌+◌, ◌-◌, ◌*◌, ◌/◌, ◌%◌, ◌≤◌, ◌<◌}
 use mathlib.Core.Path.{◌≡◌, refl, sym, ap, ap₂, ◌∙◌}
+use mathlib.Core.Logic.{◌⊎◌, inl, inr}
 use mathlib.Core.Bool.{Bool, true, false, ◌&&◌}
-use native.Mathlib.Nat.{add-mul, mul-add, mul_assoc, mul-le-mul_right, lt_of_mul-lt-mul_right, div-add-mod', mod-lt}
+use native.Mathlib.Nat.{add-mul, mul-add, mul_assoc, div-one, mul-le-mul_right, lt_of_mul-lt-mul_right, div-add-mod', mod-lt}
 use native.Mathlib.Omega.{arith}
 use lib.Dec.{leb, ltb}
 use borrow.Author.Tests.{le-leb, lt-leb, leb-true, leb-false}
@@ -70,7 +71,7 @@ module _ (n low high place part : ℕ) (small : n < 1000000) (at : place ≡ n *
       (omega (arith, adds_little n 100 part 4294967296 10000 some enough few little))
 
   pub middle_is : 4294967296 ≤ 10000 * part → 100 * (10000 * part - 4294967296) < part
-      → (leb (low * 100 * part) place && ltb place ((high * 100 + 100) * part)) ≡ (leb low (n / 100 % 100) && leb (n / 100 % 100) high)
+      → (leb (low * (100 * part)) place && ltb place (high * (100 * part) + 100 * part)) ≡ (leb low (n / 100 % 100) && leb (n / 100 % 100) high)
   middle_is enough little =
       let some : 0 < 10000 = omega arith in
       let few : n / 10000 < 100 = omega arith in
@@ -83,8 +84,21 @@ module _ (n low high place part : ℕ) (small : n < 1000000) (at : place ≡ n *
       let is = parts n 10000 part 4294967296 100 some enough few little ∙ sym at in
       let e : two * (100 * part) + (n % 100 * part + over) ≡ place = omega arith in
       let last : (n % 100 + 1) * part ≤ 100 * part = mul-le-mul_right part (omega arith) in
-      ap₂ (λ (a b : ℕ). leb a place && ltb place b)
-      (mul_assoc low 100 part)
-      (add-mul (high * 100) 100 part ∙ ap (λ (k : ℕ). k + 100 * part) (mul_assoc high 100 part))
-      ∙ within (100 * part) place two (n % 100 * part + over) low high e
+      within (100 * part) place two (n % 100 * part + over) low high e
       (omega (arith, add-mul (n % 100) 1 part, adds_little n 10000 part 4294967296 100 some enough few little))
+
+-- the last two digits, and the two before them, with the part of each
+abbrev pub Parted : ℕ → ℕ → Type 0
+Parted unit part = ((unit ≡ 1) × (part ≡ 42949673)) ⊎ ((unit ≡ 100) × (part ≡ 429497))
+
+pub two_is : (n unit part low high place : ℕ) → n < 1000000 → Parted unit part → place ≡ n * part % 4294967296
+    → (leb (low * (unit * part)) place && ltb place (high * (unit * part) + unit * part)) ≡ (leb low (n / unit % 100) && leb (n / unit % 100) high)
+two_is n unit part low high place small (inl (u, p)) at =
+    rw (u, p, div-one) (low_is n low high place 42949673 small (rw (← p) at) (omega arith) (omega arith))
+two_is n unit part low high place small (inr (u, p)) at =
+    rw (u, p) (middle_is n low high place 429497 small (rw (← p) at) (omega arith) (omega arith))
+
+-- a digit's width is small
+pub width_le : (unit part : ℕ) → Parted unit part → unit * part ≤ 42949700
+width_le unit part (inl (u, p)) = rw (u, p) (omega arith)
+width_le unit part (inr (u, p)) = rw (u, p) (omega arith)

@@ -2,7 +2,7 @@
 // gateway's processor cannot.
 #![tactic(auto)]
 
-ghost use Rattle.std.specs.Prelude.{◌≡◌, ◌&&◌, ◌+◌, ◌*◌, ◌/◌, ◌%◌, ◌≤◌, ◌<◌, leb};
+ghost use Rattle.std.specs.Prelude.{◌≡◌, ◌&&◌, ◌+◌, ◌*◌, ◌/◌, ◌%◌, ◌≤◌, ◌<◌, ◌⊎◌, leb};
 ghost use Rattle.calendar.specs.Calendar.{february_length, month_length, is_day, real_date, real_time};
 
 // A year divides by 100 where its last two digits are 00, and then by 400 where it divides by 16.
@@ -11,7 +11,7 @@ fn february_length(year: u32) -> u32
     ensures { result ≡ february_length year }
 {
     let by_4 = year & 3 == 0;
-    let by_100 = low_within(year, 0, 0);
+    let by_100 = two_within(year, 1, HUNDREDTH, 0, 0);
     let by_400 = by_100 & (year & 15 == 0);
     if by_4 & !(by_100 & !by_400) { 29 } else { 28 }
 }
@@ -107,22 +107,15 @@ fn part_of(n: u32, part: u32) -> u32
     (n as u64 * part as u64 & 4294967295) as u32
 }
 
-// Whether the last two digits of n are from low to high.
-fn low_within(n: u32, low: u32, high: u32) -> bool
-    requires { (n < 1000000) × (low < 99) × (high < 99) }
-    ensures { result ≡ (leb low (n % 100) && leb (n % 100) high) }
+// Whether two digits of n are from low to high: its last two, by the unit 1, or the two before them, by the unit 100.
+fn two_within(n: u32, unit: u32, part: u32, low: u32, high: u32) -> bool
+    requires small { (n < 1000000) × (low < 99) × (high < 99) }
+    requires parted { ((unit ≡ 1) × (part ≡ HUNDREDTH)) ⊎ ((unit ≡ 100) × (part ≡ TEN_THOUSANDTH)) }
+    ensures { result ≡ (leb low (n / unit % 100) && leb (n / unit % 100) high) }
 {
-    let place = part_of(n, HUNDREDTH);
-    (low * HUNDREDTH <= place) & (place < high * HUNDREDTH + HUNDREDTH)
-}
-
-// Whether the two digits before them are.
-fn middle_within(n: u32, low: u32, high: u32) -> bool
-    requires { (n < 1000000) × (low < 99) × (high < 99) }
-    ensures { result ≡ (leb low (n / 100 % 100) && leb (n / 100 % 100) high) }
-{
-    let place = part_of(n, TEN_THOUSANDTH);
-    (low * 100 * TEN_THOUSANDTH <= place) & (place < (high * 100 + 100) * TEN_THOUSANDTH)
+    let width = unit * part;
+    let place = part_of(n, part);
+    (low * width <= place) & (place < high * width + width)
 }
 
 // Only a day after the 28th is looked at with its month and year: a table with thousands of answers tests as many dates.
@@ -132,8 +125,8 @@ pub fn is_real_date(n: u32) -> bool
     if n <= 99999999 {
         let some_years = some_ten_thousands(n);
         let rest = n - some_years * 10000;
-        if middle_within(rest, 1, 12) {
-            if low_within(rest, 1, 28) {
+        if two_within(rest, 100, TEN_THOUSANDTH, 1, 12) {
+            if two_within(rest, 1, HUNDREDTH, 1, 28) {
                 return true;
             }
             let date = fields_of(rest);
@@ -147,7 +140,7 @@ pub fn is_real_time(n: u32) -> bool
     ensures { result ≡ real_time n }
 {
     if n < 240000 {
-        return middle_within(n, 0, 59) & low_within(n, 0, 59);
+        return two_within(n, 100, TEN_THOUSANDTH, 0, 59) & two_within(n, 1, HUNDREDTH, 0, 59);
     }
     false
 }
