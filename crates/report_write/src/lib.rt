@@ -37,7 +37,7 @@ fn separator_length(left: usize) -> usize
 
 // What a report is written from: a cell for each name and each value, line by line, which is its place and its length in the source; how many
 // cells a line has; what separates them. The cells are numbers in a row, since C lends them so.
-#[derive(Clone, Copy)]
+#[derive(Clone, Copy, Debug, PartialEq, Eq, Hash)]
 struct Draft<'a> {
     source: &'a [u8],
     cells: &'a [usize],
