@@ -99,7 +99,7 @@ impl From<Word> for Class {
     }
 }
 
-// Why an item is refused where it may not stand.
+// Why an item is refused where it may not stand. Several classes have one reason, so it is no conversion.
 pub fn refusal_reason(class: Class) -> Reason
     ensures { reason_number result ≡ refusal_no (code_no class) }
 {
@@ -143,7 +143,7 @@ const NO_NUMBER: Number = Number {
     scale: 0,
 };
 
-// The same of a token that is no number and no operator.
+// The same of a token that is no number and no operator. It says what item_with is given then: that is plainer than more arguments at each call.
 fn item_of(base: usize, class: Class, start: usize, end: usize, value: u32) -> Item
     requires { (start ≤ end) × (base + end < 18446744073709551616) }
     ensures { result ≡ made base class start end value }
@@ -151,7 +151,7 @@ fn item_of(base: usize, class: Class, start: usize, end: usize, value: u32) -> I
     item_with(base, class, start, end, value, NO_NUMBER, Operator::Equal)
 }
 
-// The same of an operator.
+// The same of an operator, which is no number either: it says what item_with is given then.
 fn sign_item(base: usize, start: usize, end: usize, operator: Operator) -> Item
     requires { (start ≤ end) × (base + end < 18446744073709551616) }
     ensures { result ≡ made_of base (code_of operatorClass) start end 0 zero operator }

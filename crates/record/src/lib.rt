@@ -35,6 +35,7 @@ fn in_range(number: CommandNumber, outcome: Outcome, text: &[u8]) -> bool
     (1 <= n) & (n <= COMMANDS) & is_outcome(outcome) & text_fits
 }
 
+// The bytes of a record besides its number and its text. Every Error has the same, so it is no conversion.
 fn fixed_length(outcome: Outcome) -> usize
     ensures { result ≡ fixed_length outcome }
 {

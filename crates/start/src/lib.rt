@@ -16,7 +16,7 @@ use number::Number;
 use statement::{Operand, Start};
 use token::Operator;
 
-// The parameter's present value: a number, or the bytes that are given with it.
+// The parameter's present value: a number, or the bytes that are given with it. C hands these bytes apart, so the value does not hold them.
 #[derive(Clone, Copy, Debug, PartialEq, Eq, Hash)]
 pub enum Present {
     Number(Number),
@@ -52,6 +52,9 @@ fn is_permitted(n: Number) -> bool
     let mantissa = sign_and_size(n.mantissa);
     (mantissa.size < MANTISSA_LIMIT) & (n.scale < NUMBER_DIGITS as u32)
 }
+
+// Numbers are put in exact order by grown, level and by_level: no method of the library compares mantissas with scales without a division or
+// a wider word.
 
 // m times ten, by times, or as often as it takes to go beyond every mantissa.
 fn grown(m: u64, by: u32) -> u64
