@@ -8,7 +8,8 @@ use statement::Statement;
 use std::io::Read;
 use std::{fmt, io};
 
-// One byte more than the longest job file: a file that fills it is too long.
+// One byte more than the longest job file: a file that fills it is too long. All memory is fixed: the program takes none from the heap, so that no
+// further C function is trusted.
 const ROOM: usize = 65536;
 
 // A statement, shown by its keyword.

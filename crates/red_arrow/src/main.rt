@@ -111,6 +111,7 @@ fn collect(
     }
 }
 
+// All memory is fixed: the program takes none from the heap, so that no further C function is trusted.
 fn main(rt: HostRuntime) -> io::Result<()> {
     let mut table = [0u8; Table::SIZE];
     make(&rt, &mut table)?;

@@ -9,10 +9,12 @@ use std::io;
 use std::io::Read;
 
 // One byte more than the longest report that the program has room for: a report that fills it is refused. As many cells are enough, as a field
-// with what stands behind it takes two bytes or more. They are 2 MiB of the stack.
+// with what stands behind it takes two bytes or more. They are 2 MiB of the stack. All memory is fixed: the program takes none from the heap, so
+// that no further C function is trusted.
 const ROOM: usize = 262144;
 
-// The rows, from the names to the last line of values. Of each field the cells have its place and its length.
+// The rows, from the names to the last line of values. Of each field the cells have its place and its length. It prints many lines and can fail in
+// each, which a Display cannot say.
 fn print_rows(
     rt: &impl Print,
     file: &[u8],
@@ -53,6 +55,7 @@ fn delimiter(rt: &impl Env) -> u8 {
     }
 }
 
+// It prints as many lines, so it is no Display either.
 fn print_report(rt: &impl Print, file: &[u8], delimiter: u8) -> io::Result<()> {
     let mut cells = [0usize; ROOM];
     match read_report(file, delimiter, &mut cells) {
