@@ -31,9 +31,11 @@ enum Kind {
 
 // ---- job files
 
-// Places for the offsets of every file that is taken.
+// Places for the offsets of every file that is taken. All memory is fixed: the program takes none from the heap, so that no further C function is
+// trusted.
 const PLACES: usize = STATEMENTS as usize;
 
+// What a job file read as: its offsets in a row. They are a part of an array, for which no Display of this program can be.
 fn print_offsets(
     rt: &impl Print,
     answer: Result<usize, Refusal>,
