@@ -13,8 +13,8 @@ use std::io::Read;
 // that no further C function is trusted.
 const ROOM: usize = 262144;
 
-// The rows, from the names to the last line of values. Of each field the cells have its place and its length. It prints many lines and can fail in
-// each, which a Display cannot say.
+// The rows, from the names to the last line of values. Of each field the cells have its place and its length. The bytes are handed on as they stand
+// and need not be text, so this is no Display.
 fn print_rows(
     rt: &impl Print,
     file: &[u8],
@@ -55,7 +55,7 @@ fn delimiter(rt: &impl Env) -> u8 {
     }
 }
 
-// It prints as many lines, so it is no Display either.
+// No Display, for the same reason.
 fn print_report(rt: &impl Print, file: &[u8], delimiter: u8) -> io::Result<()> {
     let mut cells = [0usize; ROOM];
     match read_report(file, delimiter, &mut cells) {
