@@ -52,11 +52,11 @@ pub enum Separator {
 }
 
 // What follows a field that ends before e.
-pub fn separator_at(s: &[u8], e: usize, d: Delimiter) -> Separator
+pub fn separator_at(s: &[u8], e: usize, d: u8) -> Separator
     requires { e ≤ length s.now }
-    ensures { result ≡ separator_at (byte_of d) s.now e }
+    ensures { result ≡ separator_at d s.now e }
 {
-    if byte_at(s, e) == d.byte() {
+    if byte_at(s, e) == d {
         return Separator::Field(e + 1);
     }
     if has_at(s, e, b"\r\n") {
@@ -66,13 +66,13 @@ pub fn separator_at(s: &[u8], e: usize, d: Delimiter) -> Separator
 }
 
 // Writes what follows a field, which is the last of its line or not, and gives the place after it.
-pub fn put_separator(out: &mut [u8], at: usize, d: Delimiter, last: bool) -> usize
-    requires { at + length (separator (byte_of d) last) ≤ length out.old }
-    ensures { Wrote out.old at (separator (byte_of d) last) out.new result }
+pub fn put_separator(out: &mut [u8], at: usize, d: u8, last: bool) -> usize
+    requires { at + length (separator d last) ≤ length out.old }
+    ensures { Wrote out.old at (separator d last) out.new result }
 {
     if last {
         return put_bytes(out, at, b"\r\n");
     }
-    out[at] = d.byte();
+    out[at] = d;
     at + 1
 }

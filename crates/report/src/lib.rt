@@ -110,7 +110,7 @@ impl File<'_> {
         while at < self.bytes.len() {
             let end = field.end_at(self.bytes, at)?;
             k += 1;
-            match separator_at(self.bytes, end, self.delimiter) {
+            match separator_at(self.bytes, end, self.delimiter.byte()) {
                 Separator::Field(next) => at = next,
                 Separator::Line(next) => return Some((k, next)),
                 Separator::Neither => return None,
@@ -163,7 +163,7 @@ impl File<'_> {
             cells[k] = at;
             cells[k + 1] = end - at;
             k += 2;
-            match separator_at(self.bytes, end, self.delimiter) {
+            match separator_at(self.bytes, end, self.delimiter.byte()) {
                 Separator::Field(next) | Separator::Line(next) => at = next,
                 Separator::Neither => return,
             }

@@ -114,7 +114,7 @@ impl Draft<'_> {
         ensures { Wrote out.old at (part self.now.source.now p n ++ separator (byte_of self.now.delimiter) last) out.new result }
     {
         let end = put_bytes(out, at, &self.source[p..p + n]);
-        put_separator(out, end, self.delimiter, last)
+        put_separator(out, end, self.delimiter.byte(), last)
     }
 
     // Writes the text of the cells from the start of out on, and gives the place after it.

@@ -6,4 +6,4 @@ pub returns-then-last : goal.returns-then-last
 returns-then-last c = rw c.if-last.true c.put_bytes.ensures
 
 pub returns : goal.returns
-returns c = rw (c.if-last.false, c.byte.ensures) (wrote_byte _ _ _)
+returns c = rw c.if-last.false (wrote_byte _ _ _)

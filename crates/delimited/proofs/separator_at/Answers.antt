@@ -1,18 +1,16 @@
 -- `delimited::separator_at` meets its contract.
-use borrow.Author.Tests.{eq-eqb, ne_eqb}
-use mathlib.Core.Path.{sym, ◌∙◌}
+use Rattle.laws.proofs.Choose.{choose}
 use Rattle.delimited.specs.Separators.{separator_at}
 use Rattle.delimited.proofs.separator_at.Goals as goal
 
-pub returns-then-byte_at-byte : goal.returns-then-byte_at-byte
+pub returns-then-byte_at-d : goal.returns-then-byte_at-d
 unfolding separator_at
-returns-then-byte_at-byte c = rw (← c.byte_at.ensures, ← c.byte.ensures, eq-eqb _ _ c.if-byte_at-byte.true)
+returns-then-byte_at-d c = search choose depth 9
 
 pub returns-then-has_at : goal.returns-then-has_at
 unfolding separator_at
-returns-then-has_at c =
-    rw (← c.byte_at.ensures, ← c.byte.ensures, ne_eqb _ _ c.if-byte_at-byte.false, sym c.has_at.ensures ∙ c.if-has_at.true)
+returns-then-has_at c = search choose depth 9
 
 pub returns : goal.returns
 unfolding separator_at
-returns c = rw (← c.byte_at.ensures, ← c.byte.ensures, ne_eqb _ _ c.if-byte_at-byte.false, sym c.has_at.ensures ∙ c.if-has_at.false)
+returns c = search choose depth 9

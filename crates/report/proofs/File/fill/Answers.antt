@@ -39,22 +39,22 @@ pub separator_at-requires : goal.separator_at-requires
 separator_at-requires c = (cell_ahead _ _ _ _ _ _ _ c.loop-at.invariant c.loop-at-test.true _ c.in-Some.ensures).1
 
 pub loop-at-smaller-in-Field : goal.loop-at-smaller-in-Field
-loop-at-smaller-in-Field c = omega (arith, next_ahead _ _ _ _ _ _ _ c.loop-at.invariant c.loop-at-test.true _ c.in-Some.ensures _ (inl (sym c.in-Field.ensures)))
+loop-at-smaller-in-Field c = omega (arith, next_ahead _ _ _ _ _ _ _ c.loop-at.invariant c.loop-at-test.true _ c.in-Some.ensures _ (inl (sym (rw c.byte.ensures at c.in-Field.ensures))))
 
 pub loop-at-preserved-in-Field : goal.loop-at-preserved-in-Field
-loop-at-preserved-in-Field c = next_cell _ _ _ _ _ _ _ c.loop-at.invariant c.loop-at-test.true _ c.in-Some.ensures _ (inl (sym c.in-Field.ensures))
+loop-at-preserved-in-Field c = next_cell _ _ _ _ _ _ _ c.loop-at.invariant c.loop-at-test.true _ c.in-Some.ensures _ (inl (sym (rw c.byte.ensures at c.in-Field.ensures)))
 
 pub loop-at-smaller : goal.loop-at-smaller
-loop-at-smaller c = omega (arith, next_ahead _ _ _ _ _ _ _ c.loop-at.invariant c.loop-at-test.true _ c.in-Some.ensures _ (inr (sym c.in-Field.ensures)))
+loop-at-smaller c = omega (arith, next_ahead _ _ _ _ _ _ _ c.loop-at.invariant c.loop-at-test.true _ c.in-Some.ensures _ (inr (sym (rw c.byte.ensures at c.in-Field.ensures))))
 
 pub loop-at-preserved : goal.loop-at-preserved
-loop-at-preserved c = next_cell _ _ _ _ _ _ _ c.loop-at.invariant c.loop-at-test.true _ c.in-Some.ensures _ (inr (sym c.in-Field.ensures))
+loop-at-preserved c = next_cell _ _ _ _ _ _ _ c.loop-at.invariant c.loop-at-test.true _ c.in-Some.ensures _ (inr (sym (rw c.byte.ensures at c.in-Field.ensures)))
 
 pub shape_of-cells-in-Neither : goal.shape_of-cells-in-Neither
 shape_of-cells-in-Neither c = simp length-set (cells_length c.loop-at.invariant)
 
 pub returns-in-Neither : goal.returns-in-Neither
-returns-in-Neither c = cell_last _ _ _ _ _ _ _ c.loop-at.invariant c.loop-at-test.true _ c.in-Some.ensures c.in-Neither.ensures
+returns-in-Neither c = cell_last _ _ _ _ _ _ _ c.loop-at.invariant c.loop-at-test.true _ c.in-Some.ensures (rw c.byte.ensures at c.in-Neither.ensures)
 
 pub shape_of-cells : goal.shape_of-cells
 shape_of-cells c = cells_length c.loop-at.invariant

@@ -13,16 +13,16 @@ pub separator_at-requires : goal.separator_at-requires
 separator_at-requires c = (field_room _ _ _ _ _ _ c.loop-at.invariant c.loop-at-test.true _ c.in_ok-end.ensures).1
 
 pub loop-at-smaller : goal.loop-at-smaller
-loop-at-smaller c = omega (arith, another_ahead _ _ _ _ _ _ c.loop-at.invariant c.loop-at-test.true _ c.in_ok-end.ensures _ c.in-Field.ensures)
+loop-at-smaller c = omega (arith, another_ahead _ _ _ _ _ _ c.loop-at.invariant c.loop-at-test.true _ c.in_ok-end.ensures _ (rw c.byte.ensures at c.in-Field.ensures))
 
 pub loop-at-preserved : goal.loop-at-preserved
-loop-at-preserved c = another _ _ _ _ _ _ c.loop-at.invariant c.loop-at-test.true _ c.in_ok-end.ensures _ c.in-Field.ensures
+loop-at-preserved c = another _ _ _ _ _ _ c.loop-at.invariant c.loop-at-test.true _ c.in_ok-end.ensures _ (rw c.byte.ensures at c.in-Field.ensures)
 
 pub returns-in-Line : goal.returns-in-Line
-returns-in-Line c = line_over _ _ _ _ _ _ c.loop-at.invariant c.loop-at-test.true _ c.in_ok-end.ensures _ c.in-Line.ensures
+returns-in-Line c = line_over _ _ _ _ _ _ c.loop-at.invariant c.loop-at-test.true _ c.in_ok-end.ensures _ (rw c.byte.ensures at c.in-Line.ensures)
 
 pub returns-in-Neither : goal.returns-in-Neither
-returns-in-Neither c = neither _ _ _ _ _ _ c.loop-at.invariant c.loop-at-test.true _ c.in_ok-end.ensures c.in-Neither.ensures
+returns-in-Neither c = neither _ _ _ _ _ _ c.loop-at.invariant c.loop-at-test.true _ c.in_ok-end.ensures (rw c.byte.ensures at c.in-Neither.ensures)
 
 pub returns : goal.returns
 returns c = fields_past _ _ _ _ _ _ c.loop-at.invariant c.loop-at-test.false

@@ -6,4 +6,4 @@ use Rattle.report_write.proofs.Draft.put_cell.Goals as goal
 pub returns : goal.returns
 returns c =
     then (as_bytes c.put_bytes-end.ensures (handed_on _ _ _))
-    c.put_separator.ensures
+    (rw c.byte.ensures at c.put_separator.ensures)
