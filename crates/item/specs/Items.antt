@@ -1,6 +1,6 @@
 -- The next token as code has it. The bytes s are those of the file from the place base on, and places are counted
 -- from the file's start. Need not be believed: `proofs/Tells` shows that it tells all that the token of `Tokens` says.
-use Rattle.std.specs.Prelude.{ℕ, ◌+◌, ◌-◌, ◌≤◌, ◌≡◌, cond, List, pos, eqb, length}
+use Rattle.std.specs.Prelude.{ℕ, ◌+◌, ◌-◌, ◌≤◌, ◌≡◌, cond, List, pos, eqb, leb, length}
 use Rattle.counts.specs.Limits.{file_bytes}
 use Rattle.field.specs.Part.{part}
 use Rattle.number.specs.Number.{number_of}
@@ -82,6 +82,10 @@ code_no code.Operator = class_no operator
 code_no code.Semicolon = class_no semicolon
 code_no code.End = end_no
 code_no (code.NoToken why) = no_token_no why
+
+-- the number of the class that is made of a number: that number, or where no class has it the number of a word that no production takes
+abbrev pub made_no : ℕ → ℕ
+made_no n = cond (leb n (no_token_no Misshapen)) n (class_no reserved)
 
 -- what is refused where it may not stand, by its number: the end of the file, no token, a token
 abbrev pub refusal_no : ℕ → ℕ

@@ -10,7 +10,7 @@ ghost use Rattle.number.specs.Number.{number_of};
 ghost use Rattle.item.specs.Tokens.{word_class, number_class, date_number, two_at, time_class, time_number};
 ghost use Rattle.token.specs.declared.Operator.TheVariants.{Equal};
 ghost use Rattle.grammar.specs.Grammar.Class.{operator as operatorClass};
-ghost use Rattle.item.specs.Items.{code_of, code_no, refusal_no, zero, made_of, made, Seen, Stood};
+ghost use Rattle.item.specs.Items.{code_of, code_no, made_no, refusal_no, zero, made_of, made, Seen, Stood};
 
 use calendar::{is_real_date, is_real_time};
 use counts::{Reason, Refusal};
@@ -99,6 +99,44 @@ impl From<Word> for Class {
     }
 }
 
+// The class that a number stands for. A number that none has is taken as that of a word that no production takes, and is refused like it.
+impl From<u8> for Class {
+    ghost from_gives = { λ number class. code_no class ≡ made_no number };
+
+    fn from(number: u8) -> Self {
+        match number {
+            0 => Class::Job,
+            1 => Class::Response,
+            2 => Class::Upload,
+            3 => Class::Download,
+            4 => Class::GetInfo,
+            5 => Class::Abort,
+            6 => Class::Report,
+            7 => Class::Event,
+            8 => Class::Start,
+            9 => Class::Active,
+            10 => Class::Immediate,
+            11 => Class::Reserved,
+            12 => Class::Name,
+            13 => Class::TimeGe,
+            14 => Class::Number,
+            15 => Class::Date,
+            16 => Class::UnrealDate,
+            17 => Class::Time,
+            18 => Class::UnrealTime,
+            19 => Class::Text,
+            20 => Class::Operator,
+            21 => Class::Semicolon,
+            22 => Class::End,
+            23 => Class::NoToken(Why::Stray),
+            24 => Class::NoToken(Why::OpenString),
+            25 => Class::NoToken(Why::BrokenString),
+            26 => Class::NoToken(Why::Misshapen),
+            _ => Class::Reserved,
+        }
+    }
+}
+
 // Why an item is refused where it may not stand. Several classes have one reason, so it is no conversion.
 pub fn refusal_reason(class: Class) -> Reason
     ensures { reason_number result ≡ refusal_no (code_no class) }
@@ -111,6 +149,13 @@ pub fn refusal_reason(class: Class) -> Reason
         Class::NoToken(Why::Misshapen) => Reason::Misshapen,
         _ => Reason::Unexpected,
     }
+}
+
+// The number that an item is refused with where it may not stand, by the number of its class.
+pub fn refusal_number(class: u8) -> u32
+    ensures { result ≡ refusal_no class }
+{
+    refusal_reason(Class::from(class)).number()
 }
 
 // An item of a class, from start to end of the bytes that begin at base.
