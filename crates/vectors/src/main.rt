@@ -124,12 +124,10 @@ fn date_in(file: &[u8]) -> u32 {
     labelled::field_after(file, 0, b"DATE ", 8).unwrap_or(0)
 }
 
-// A table in which program 1 has placed one command.
-fn table_with_one() -> [u8; Table::SIZE] {
-    let mut table = [0u8; Table::SIZE];
-    let _ = session_table::make(&mut table, 32);
-    let _ = session_table::place(&mut table, 1, 1);
-    table
+// Makes a table in which program 1 has placed one command. It is lent: one that was handed back would take its bytes of the stack twice.
+fn make_with_one(table: &mut [u8; Table::SIZE]) {
+    let _ = session_table::make(table, 32);
+    let _ = session_table::place(table, 1, 1);
 }
 
 fn place(rt: &impl Print, table: &mut [u8]) -> io::Result<()> {
@@ -177,7 +175,8 @@ fn collect(rt: &impl Print, table: &mut [u8]) -> io::Result<()> {
 
 // The command is taken up, and answered with the date of the file.
 fn run_answer(rt: &impl Print, file: &[u8]) -> io::Result<()> {
-    let mut table = table_with_one();
+    let mut table = [0u8; Table::SIZE];
+    make_with_one(&mut table);
     let _ = session_table::take_up(&mut table);
     answer(rt, &mut table, Ticket(1), date_in(file))?;
     collect(rt, &mut table)
@@ -198,7 +197,8 @@ fn store(table: &mut [u8; Table::SIZE], date: u32) {
 
 // The table stores the date of the file; then each call is made on it.
 fn run_stored(rt: &impl Print, file: &[u8]) -> io::Result<()> {
-    let mut table = table_with_one();
+    let mut table = [0u8; Table::SIZE];
+    make_with_one(&mut table);
     store(&mut table, date_in(file));
     if table_sound::is_sound(&table) {
         print!(rt; " sound")?;
