@@ -49,11 +49,15 @@ impl Table {
         }
     }
 
-    // All bytes 0: no session, whatever stood there.
+    // All bytes 0: no session, whatever stood there. The loop counts by hand, and is no fill: on its measure rests that clearing ends, and an edit shows it.
     pub fn clear(b: &mut [u8])
         ensures { b.new ≡ replicate (length b.old) 0 }
     {
-        b.fill(0);
+        let mut i = 0;
+        while i < b.len() {
+            b[i] = 0;
+            i += 1;
+        }
     }
 }
 
