@@ -88,17 +88,20 @@ module _ (n low high place part : ℕ) (small : n < 1000000) (at : place ≡ n *
       (omega (arith, add-mul (n % 100) 1 part, adds_little n 10000 part 4294967296 100 some enough few little))
 
 -- the last two digits, and the two before them, with the part of each
-abbrev pub Parted : ℕ → ℕ → Type 0
-Parted unit part = ((unit ≡ 1) × (part ≡ 42949673)) ⊎ ((unit ≡ 100) × (part ≡ 429497))
+abbrev pub Parted : (hundredth ten_thousandth unit part : ℕ) → Type 0
+Parted hundredth ten_thousandth unit part = ((unit ≡ 1) × (part ≡ hundredth)) ⊎ ((unit ≡ 100) × (part ≡ ten_thousandth))
 
-pub two_is : (n unit part low high place : ℕ) → n < 1000000 → Parted unit part → place ≡ n * part % 4294967296
-    → (leb (low * (unit * part)) place && ltb place (high * (unit * part) + unit * part)) ≡ (leb low (n / unit % 100) && leb (n / unit % 100) high)
-two_is n unit part low high place small (inl (u, p)) at =
-    rw (u, p, div-one) (low_is n low high place 42949673 small (rw (← p) at) (omega arith) (omega arith))
-two_is n unit part low high place small (inr (u, p)) at =
-    rw (u, p) (middle_is n low high place 429497 small (rw (← p) at) (omega arith) (omega arith))
+module _ (h t unit part : ℕ) where
+  pub two_is : (n low high place : ℕ) → n < 1000000 → Parted h t unit part → place ≡ n * part % 4294967296
+      → 4294967296 ≤ 100 * h → 10000 * (100 * h - 4294967296) < h → 4294967296 ≤ 10000 * t → 100 * (10000 * t - 4294967296) < t
+      → (leb (low * (unit * part)) place && ltb place (high * (unit * part) + unit * part)) ≡ (leb low (n / unit % 100) && leb (n / unit % 100) high)
+  two_is n low high place small (inl (u, p)) at enough little enough_t little_t =
+      let one : 1 * h ≡ h = omega arith in
+      rw (u, p, div-one, one) (low_is n low high place h small (rw (← p) at) enough little)
+  two_is n low high place small (inr (u, p)) at enough_h little_h enough little =
+      rw (u, p) (middle_is n low high place t small (rw (← p) at) enough little)
 
--- a digit's width is small
-pub width_le : (unit part : ℕ) → Parted unit part → unit * part ≤ 42949700
-width_le unit part (inl (u, p)) = rw (u, p) (omega arith)
-width_le unit part (inr (u, p)) = rw (u, p) (omega arith)
+  -- a digit's width is small
+  pub width_le : (most : ℕ) → Parted h t unit part → h ≤ most → 100 * t ≤ most → unit * part ≤ most
+  width_le most (inl (u, p)) a b = rw (u, p) (omega arith)
+  width_le most (inr (u, p)) a b = rw (u, p) (omega arith)
